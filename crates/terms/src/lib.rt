@@ -1,0 +1,8 @@
+// The words of the trade that every layer shares: sides, roles, phases, refusals, causes, names and patience.
+pub mod cause;
+pub mod name;
+pub mod patience;
+pub mod phase;
+pub mod refusal;
+pub mod role;
+pub mod side;
