@@ -6,3 +6,5 @@ pub mod Names
 pub mod Named
 pub mod Patiences
 pub mod Patient
+pub mod Sizes
+pub mod Agreements

@@ -1,4 +1,5 @@
-// The words of the trade that every layer shares: sides, roles, phases, refusals, causes, names and patience.
+// The words of the trade that every layer shares: sides, roles, phases, refusals, causes, names, patience and agreed values.
+pub mod agreed;
 pub mod cause;
 pub mod name;
 pub mod patience;

@@ -13,3 +13,5 @@ pub struct Patience {
 }
 
 mod calls;
+
+pub use calls::is_legal_patience;

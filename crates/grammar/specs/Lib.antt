@@ -1,0 +1,4 @@
+pub mod Grammar
+pub mod Modes
+pub mod Meaning
+pub mod Parts

@@ -1,0 +1,5 @@
+pub mod Heads
+pub mod Noting
+pub mod Scanning
+pub mod Going
+pub mod Found

@@ -1,0 +1,5 @@
+pub mod Number
+pub mod Pairs
+pub mod Splits
+pub mod Values
+pub mod Scan
