@@ -5,14 +5,11 @@ use console::summary::Summary;
 use console::summary::SummaryDisplay;
 use grammar::message::Access;
 use grammar::message::Message;
-use grammar::mode::Mode;
 use grammar::places::Places;
 use option_pairs::pairs::first;
 use options::encode::encode_oack;
-use options::offer::Offer;
-use options::offer::answer_pairs;
+use options::request::judge_request;
 use std::io;
-use terms::name::is_legal_name;
 use terms::patience::Patience;
 use terms::refusal::Refusal;
 use terms::refusal::RefusalDisplay;
@@ -120,7 +117,7 @@ fn explain_pairs(rt: &LibcRuntime, pairs: &[u8], at: usize) -> io::Result<()> {
 
 // What a cabin of standard patience would make of the request.
 fn explain_service(rt: &LibcRuntime, name: &[u8], mode: &[u8], pairs: &[u8]) -> io::Result<()> {
-    match judge_request(name, mode, pairs) {
+    match judge_request(name, mode, pairs, Patience::standard()) {
         Ok(offer) => match encode_oack(offer.answer) {
             Some(oack) => {
                 let words = Summary(Message::Oack {
@@ -135,13 +132,4 @@ fn explain_service(rt: &LibcRuntime, name: &[u8], mode: &[u8], pairs: &[u8]) -> 
             println!(rt, "  the cabin refuses it: {number} {why}")
         }
     }
-}
-
-// The checks of a request before the store is asked: its name, its mode, its options.
-fn judge_request(name: &[u8], mode: &[u8], pairs: &[u8]) -> Result<Offer, Refusal> {
-    if !is_legal_name(name) {
-        return Err(Refusal::IllegalName);
-    }
-    let _mode = Mode::read(mode)?;
-    answer_pairs(pairs, Patience::standard())
 }

@@ -1,3 +1,4 @@
 pub mod Agreement
 pub mod Listing
 pub mod Exchange
+pub mod Request

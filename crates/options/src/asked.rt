@@ -34,7 +34,7 @@ pub fn ask_options(
 ) -> Result<Options, Refusal>
     ensures { λ r. ⌜ Asked (own .tries) blksize timeout windowsize r ⌝ }
 {
-    if !may_ask(blksize, timeout, windowsize, own.tries()) {
+    if !may_ask(blksize, timeout, windowsize, own.tries) {
         return Err(Refusal::OutOfRange);
     }
     Ok(Options {

@@ -4,4 +4,5 @@ pub mod asked;
 pub mod encode;
 pub mod exchange;
 pub mod offer;
+pub mod request;
 pub mod settled;

@@ -45,7 +45,7 @@ pub fn answer(wanted: Options, own: Patience) -> Options
 {
     Options {
         blksize: cut_to(1468, wanted.blksize),
-        timeout: kept_if_legal(wanted.timeout, own.tries()),
+        timeout: kept_if_legal(wanted.timeout, own.tries),
         windowsize: cut_to(16, wanted.windowsize),
     }
 }

@@ -7,10 +7,10 @@ use crate::patience::Patience;
 #[derive(Clone, Copy)]
 pub struct Agreed {
     // bytes of a full block
-    block_size: u16,
+    pub block_size: u16,
     // blocks that may be out unacknowledged
-    window: u16,
-    patience: Patience,
+    pub window: u16,
+    pub patience: Patience,
     ghost legal: { legal-sizes «block_size» window ≡ true },
 }
 

@@ -6,9 +6,9 @@ ghost use Rattle.terms.specs.Patiences.{legal-patience};
 #[derive(Clone, Copy)]
 pub struct Patience {
     // seconds
-    wait: u8,
+    pub wait: u8,
     // after the first wait
-    tries: u8,
+    pub tries: u8,
     ghost legal: { legal-patience wait tries ≡ true },
 }
 

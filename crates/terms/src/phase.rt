@@ -2,10 +2,8 @@
 ghost use mathlib.Core.Path.{_≡_};
 ghost use Rattle.terms.specs.Phases.{phase-word, ended, blame};
 use crate::cause::Cause;
-use crate::cause::CauseDebug;
-use crate::cause::CausePartialEq;
 
-#[derive(Clone, Copy, PartialEq, Eq, Debug)]
+#[derive(Clone, Copy)]
 pub enum Phase {
     // its request is out
     Asked,

@@ -1,6 +1,5 @@
 // Making and reading agreed values.
 ghost use mathlib.Core.Path.{_≡_};
-ghost use Prim.Native.Nat.{_≤_};
 ghost use Rattle.std.specs.declared.result.Result.the-variants.{Ok};
 ghost use Rattle.terms.specs.Agreements.{Agrees};
 use crate::agreed::Agreed;
@@ -30,27 +29,5 @@ impl Agreed {
             window: 1,
             patience: own,
         }
-    }
-
-    pub fn block_size(self) -> u16
-        ensures value { λ r. ⌜ r ≡ self .«block_size» ⌝ }
-        ensures low_bound { λ r. ⌜ 8 ≤ r ⌝ }
-        ensures high_bound { λ r. ⌜ r ≤ 1468 ⌝ }
-    {
-        self.block_size
-    }
-
-    pub fn window(self) -> u16
-        ensures value { λ r. ⌜ r ≡ self .window ⌝ }
-        ensures low_bound { λ r. ⌜ 1 ≤ r ⌝ }
-        ensures high_bound { λ r. ⌜ r ≤ 16 ⌝ }
-    {
-        self.window
-    }
-
-    pub fn patience(self) -> Patience
-        ensures { λ r. ⌜ r ≡ self .patience ⌝ }
-    {
-        self.patience
     }
 }

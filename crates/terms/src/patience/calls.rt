@@ -43,18 +43,6 @@ impl Patience {
         Patience::new(wait, self.tries as u32)
     }
 
-    pub fn wait(self) -> u8
-        ensures { λ r. ⌜ r ≡ self .wait ⌝ }
-    {
-        self.wait
-    }
-
-    pub fn tries(self) -> u8
-        ensures { λ r. ⌜ r ≡ self .tries ⌝ }
-    {
-        self.tries
-    }
-
     // The seconds of silence after which a transfer gives up.
     pub fn total(self) -> u16
         ensures value { λ r. ⌜ r ≡ (self .tries + 1) * self .wait ⌝ }

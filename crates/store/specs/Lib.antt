@@ -1,0 +1,5 @@
+pub mod Meaning
+pub mod Standing
+pub mod Laying
+pub mod Faults
+pub mod Memory
