@@ -1,4 +1,6 @@
 // The entry point: reads commands from standard input, one a line, and prints what it did, each before the next line is read.
+#![tactic(auto)]
+
 mod command;
 mod explain;
 mod host;

@@ -1,4 +1,6 @@
 // What datagrams are: the messages, their parts and the places of these, texts, option pairs and modes.
+#![tactic(auto)]
+
 pub mod message;
 pub mod mode;
 pub mod pairs;

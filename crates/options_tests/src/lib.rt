@@ -1,4 +1,6 @@
 // Examples of names, patience, numbers and options. A crate of their own, since the tests of a crate prove it once more.
+#![tactic(auto)]
+
 use option_pairs::number::number;
 use option_pairs::scan::scan_options;
 use option_pairs::values::{Options, Ranges};

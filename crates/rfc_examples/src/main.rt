@@ -1,5 +1,7 @@
 // The worked examples of RFC 1350, 2347, 2348, 2349 and 7440, run through reading, writing and the option rules.
 // Each is printed with what came out, and whether that is what the RFC, or the narrower rule of ours, says.
+#![tactic(auto)]
+
 ghost use Rattle.std.specs.Prelude.{◌≡◌, ◌+◌, IfOk, vec_len};
 
 mod agreement;

@@ -1,4 +1,6 @@
 // Tests of both stores on examples.
+#![tactic(auto)]
+
 #[cfg(test)]
 mod laying;
 #[cfg(test)]

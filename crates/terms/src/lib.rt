@@ -1,4 +1,6 @@
 // The words of the trade that every layer shares: sides, roles, phases, refusals, causes, names, patience and agreed values.
+#![tactic(auto)]
+
 pub mod agreed;
 pub mod cause;
 pub mod name;

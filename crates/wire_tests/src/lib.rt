@@ -1,4 +1,6 @@
 // Examples of reading and writing datagrams. A crate of their own, since the tests of a crate prove it once more.
+#![tactic(auto)]
+
 use grammar::message::{Access, Message};
 use grammar::mode::Mode;
 use grammar::pairs::is_paired;

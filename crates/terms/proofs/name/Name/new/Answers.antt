@@ -10,7 +10,7 @@ invariant-of-result c =
 pub returns : goal.returns
 returns c =
     record {
-      legal = sym c.if-not-is-legal-name.ensures;
+      legal = sym c.if-not-is_legal_name.ensures;
       text = front c.args.text.now _ _ c.padded.ensures;
       len = refl;
       whole = c.padded.ensures;
