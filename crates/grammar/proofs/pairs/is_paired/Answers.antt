@@ -21,7 +21,7 @@ returns-in-Start c =
     let a = at_drop_all (walk c.loop-b.part) c.args.bytes.now c.loop-b.b-index c.loop-b-test.false in
     (λ _. sound Start c.args.bytes.now (grind (arith, nat_tests)), λ _. refl)
 
-pub returns-in-default-matches : goal.returns-in-default-matches
-returns-in-default-matches c =
+pub returns-in_default-matches : goal.returns-in_default-matches
+returns-in_default-matches c =
     let a = at_drop_all (walk c.loop-b.part) c.args.bytes.now c.loop-b.b-index c.loop-b-test.false in
     (λ f. absurd (false≢true f), λ p. let k = complete c.args.bytes.now p in grind (arith, nat_tests))

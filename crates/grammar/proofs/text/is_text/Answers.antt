@@ -13,4 +13,4 @@ decided (Some p) true bs k e = absurd (false≢true (sym e))
 decided (Some p) false bs k e = (λ f. absurd (false≢true f), λ t. absurd (no_cut _ _ _ k t))
 
 pub returns : goal.returns
-returns c = decided c.cut.result _ _ c.cut.ensures c.is-none.ensures
+returns c = decided c.cut.result _ _ c.cut.ensures c.is_none.ensures

@@ -9,11 +9,11 @@ loop-done-init g c =
     let ds = g.S.Store.drafts c.args.store.now in
     (omega arith, refl, sym (set-get_or ds 4 None) ∙ ap (set ds 4) c.requires)
 
-pub returns-in-err-add : goal.returns-in-err-add
-returns-in-err-add g c =
+pub returns-in_err-add : goal.returns-in_err-add
+returns-in_err-add g c =
     let m = g.S.Store in
-    let refused = c.in-err-add.ensures in
-    let p = err_from_is_err_and c.from-residual.result c.from-residual.ensures.1 in
+    let refused = c.in_err-add.ensures in
+    let p = err_from_is_err_and c.from_residual.result c.from_residual.ensures.1 in
     let s = c.args.store.now in
     let inv = c.loop-done.invariant in
     let h = rejected m.items m.drafts m.takes s c.loop-done.store c.args.text.now c.loop-done.done c.min-n.result (g.met.S.Store.five s) c.min-n.ensures inv.1 inv.2 c.add.new.store _ refused.0 refused.1 in
@@ -24,7 +24,7 @@ loop-done-preserved g c =
     let m = g.S.Store in
     let s = c.args.store.now in
     let inv = c.loop-done.invariant in
-    let h = more m.items m.drafts m.takes s c.loop-done.store c.args.text.now c.loop-done.done c.min-n.result (g.met.S.Store.five s) c.min-n.ensures inv.1 inv.2 c.add.new.store c.in-ok-add.ensures.1 in
+    let h = more m.items m.drafts m.takes s c.loop-done.store c.args.text.now c.loop-done.done c.min-n.result (g.met.S.Store.five s) c.min-n.ensures inv.1 inv.2 c.add.new.store c.in_ok-add.ensures.1 in
     (omega (arith, c.min-n.ensures), h.0, h.1)
 
 pub returns : goal.returns
