@@ -43,7 +43,7 @@ pub fn receive<S: Store>(
     piece: &[u8],
     block: usize,
 ) -> Result<usize, Cause>
-    ensures { PassedOn cause_number items drafts (piece_refusal (drafts store.old) (takes store.old draft piece.now) draft piece.now block) store.old store.new draft piece.now result }
+    ensures { PassedOn cause_number S.items S.drafts (piece_refusal (S.drafts store.old) (S.takes store.old draft piece.now) draft piece.now block) store.old store.new draft piece.now result }
 {
     if piece.len() > block {
         return Err(Cause::Refused(Refusal::OversizedData));
@@ -60,7 +60,7 @@ pub fn hear<S: Store>(
     block: usize,
     work: usize,
 ) -> Result<usize, Fault>
-    ensures { PassedOn fault_number items drafts (call_refusal (drafts store.old) (takes store.old draft piece.now) draft piece.now block work) store.old store.new draft piece.now result }
+    ensures { PassedOn fault_number S.items S.drafts (call_refusal (S.drafts store.old) (S.takes store.old draft piece.now) draft piece.now block work) store.old store.new draft piece.now result }
 {
     if work < 1472 {
         return Err(Fault::Call(Refusal::ShortBuffer));

@@ -12,21 +12,21 @@ const HOST_DRAFT: usize = 4;
 pub struct Slip(());
 
 pub fn begin<S: Store>(store: &mut S) -> Result<Slip, Refusal>
-    ensures { Opened items drafts opens store.old store.new 4 result }
+    ensures { Opened S.items S.drafts S.opens store.old store.new 4 result }
 {
     store.open(HOST_DRAFT)?;
     Ok(Slip(()))
 }
 
 pub fn add<S: Store>(store: &mut S, _slip: &Slip, piece: &[u8]) -> Result<(), Refusal>
-    ensures { Appended items drafts takes store.old store.new 4 piece.now result }
+    ensures { Appended S.items S.drafts S.takes store.old store.new 4 piece.now result }
 {
     store.append(HOST_DRAFT, piece)
 }
 
 // A refused filing strikes the draft too.
 pub fn file<S: Store>(store: &mut S, slip: Slip, name: &[u8]) -> Result<(), Refusal>
-    ensures { Settled items drafts opens store.old store.new 4 name.now result }
+    ensures { Settled S.items S.drafts S.opens store.old store.new 4 name.now result }
 {
     let Slip(()) = slip;
     match store.file(HOST_DRAFT, name) {
@@ -39,7 +39,7 @@ pub fn file<S: Store>(store: &mut S, slip: Slip, name: &[u8]) -> Result<(), Refu
 }
 
 pub fn strike<S: Store>(store: &mut S, slip: Slip) -> Result<(), Refusal>
-    ensures { Struck items drafts opens store.old store.new 4 result }
+    ensures { Struck S.items S.drafts S.opens store.old store.new 4 result }
 {
     let Slip(()) = slip;
     store.strike(HOST_DRAFT)
@@ -47,8 +47,8 @@ pub fn strike<S: Store>(store: &mut S, slip: Slip) -> Result<(), Refusal>
 
 // Adds a text of any length, cut into pieces, to the empty draft.
 fn add_all<S: Store>(store: &mut S, slip: &Slip, text: &[u8]) -> Result<(), Refusal>
-    requires { draft_at (drafts store.old) 4 ≡ Some [] }
-    ensures { CopiedIn items drafts takes store.old store.new text.now result }
+    requires { draft_at (S.drafts store.old) 4 ≡ Some [] }
+    ensures { CopiedIn S.items S.drafts S.takes store.old store.new text.now result }
 {
     let mut done = 0;
     while done < text.len() {
@@ -61,7 +61,7 @@ fn add_all<S: Store>(store: &mut S, slip: &Slip, text: &[u8]) -> Result<(), Refu
 
 // Lays in a whole item, of any length, or leaves the items and drafts as they were.
 pub fn lay_in<S: Store>(store: &mut S, name: &[u8], text: &[u8]) -> Result<(), Refusal>
-    ensures { ItemLaid items drafts opens takes store.old store.new name.now text.now result }
+    ensures { ItemLaid S.items S.drafts S.opens S.takes store.old store.new name.now text.now result }
 {
     let slip = begin(store)?;
     match add_all(store, &slip, text) {

@@ -6,7 +6,7 @@ use crate::interface::Store;
 
 // The law holds of every store; its answer, 0, says nothing.
 pub fn filed_items_stand<S: Store>(_store: &S) -> u8
-    ensures law { ItemsStand items drafts opens takes }
+    ensures law { ItemsStand S.items S.drafts S.opens S.takes }
     ensures value { result ≡ 0 }
 {
     0

@@ -16,8 +16,8 @@ split ps i h = at_drop_more (flat_map held) ps i _ h
 sized : (ps : List (Bor (List ℕ))) (i : ℕ) → i < length ps → length (flat_map held (drop i ps)) ≡ length (next ps i) + length (flat_map held (drop (i + 1) ps))
 sized ps i h = ap length (split ps i h) ∙ length-append (next ps i) _
 
-pub slice-bounds-copy-from-slice-end : goal.slice-bounds-copy-from-slice-end
-slice-bounds-copy-from-slice-end c =
+pub slice_bounds-copy_from_slice-end : goal.slice_bounds-copy_from_slice-end
+slice_bounds-copy_from_slice-end c =
     let s = sized c.args.parts.now c.loop-part.part-index c.loop-part-test.true in search rules
 
 -- a part written at its place: what lies before it, and what lies past it
@@ -35,10 +35,10 @@ loop-part-preserved c =
     let s = split c.args.parts.now c.loop-part.part-index h in
     let l = sized c.args.parts.now c.loop-part.part-index h in
     let fits : c.loop-part.at + length (next c.args.parts.now c.loop-part.part-index) ≤ length c.loop-part.buf = omega arith in
-    let f = front c.loop-part.buf _ _ c.loop-part.at c.copy-from-slice.ensures.after fits in (
+    let f = front c.loop-part.buf _ _ c.loop-part.at c.copy_from_slice.ensures.after fits in (
       rw (f, append_assoc, ← s) c.loop-part.invariant.0,
       omega arith,
-      past _ _ _ _ c.loop-part.at c.copy-from-slice.ensures.after fits c.loop-part.invariant.2,
+      past _ _ _ _ c.loop-part.at c.copy_from_slice.ensures.after fits c.loop-part.invariant.2,
     )
 
 pub returns : goal.returns
