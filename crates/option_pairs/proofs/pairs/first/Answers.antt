@@ -3,19 +3,19 @@ use Rattle.grammar.specs.Meaning.{Cut}
 use Rattle.grammar.proofs.Bytes.{one_cut, no_cut}
 use Rattle.option_pairs.proofs.pairs.first.Goals as goal
 
-pub returns-in-default : goal.returns-in-default
-returns-in-default c n v r b = no_cut n _ _ b.name c.in-default.ensures
+pub returns-in_default : goal.returns-in_default
+returns-in_default c n v r b = no_cut n _ _ b.name c.in_default.ensures
 
-pub returns-in-default-name : goal.returns-in-default-name
-returns-in-default-name c n v r b =
+pub returns-in_default-name : goal.returns-in_default-name
+returns-in_default-name c n v r b =
     let z : length c.in-Some.name.now < 1 = search rules in
     let s = one_cut _ n _ _ _ c.in-Some.ensures b.name in
     omega (arith, ap length s.0, b.some)
 
-pub returns-in-default-cut : goal.returns-in-default-cut
-returns-in-default-cut c n v r b =
+pub returns-in_default-cut : goal.returns-in_default-cut
+returns-in_default-cut c n v r b =
     let s = one_cut n _ b.after _ _ b.name c.in-Some.ensures in
-    no_cut v r _ (rw s.1 at b.value) c.in-default-cut.ensures
+    no_cut v r _ (rw s.1 at b.value) c.in_default-cut.ensures
 
 pub returns : goal.returns
 returns c =

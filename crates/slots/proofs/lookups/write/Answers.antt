@@ -11,7 +11,7 @@ returns c =
     let at = c.args.at in
     let piece = c.args.piece.now in
     let whole : (at + length piece) - at ≡ length piece = omega arith in
-    let put : put_mid at ((at + length piece) - at) c.deref-mut.result.now c.copy-from-slice.new.self ≡ overwritten (vec_items m) at piece =
-    ap (λ k. put_mid at k c.deref-mut.result.now c.copy-from-slice.new.self) whole ∙ ap (λ xs. put_mid at (length piece) xs c.copy-from-slice.new.self) c.deref-mut.ensures.value ∙ ap (put_mid at (length piece) (vec_items m)) c.copy-from-slice.ensures.after in
+    let put : put_mid at ((at + length piece) - at) c.deref_mut.result.now c.copy_from_slice.new.self ≡ overwritten (vec_items m) at piece =
+    ap (λ k. put_mid at k c.deref_mut.result.now c.copy_from_slice.new.self) whole ∙ ap (λ xs. put_mid at (length piece) xs c.copy_from_slice.new.self) c.deref_mut.ensures.value ∙ ap (put_mid at (length piece) (vec_items m)) c.copy_from_slice.ensures.after in
     let room : at + length piece ≤ length (vec_items m) = omega (arith, c.requires, m.ok.0) in
     with_items_is m _ (ap length put ∙ length-overwritten (vec_items m) at piece room ∙ sym m.ok.0) ∙ put

@@ -10,5 +10,5 @@ returns c =
       blksize = picked _ _ _ _ _ _ v c.or.ensures;
       timeout = picked _ _ _ _ _ _ t c.or-2.ensures;
       windowsize = picked _ _ _ _ _ _ w c.or-3.ensures;
-      all = judged _ _ _ _ _ _ _ _ v t w c.any-some-known.ensures c.both.ensures;
+      all = judged _ _ _ _ _ _ _ _ v t w c.any_some-known.ensures c.both.ensures;
     }

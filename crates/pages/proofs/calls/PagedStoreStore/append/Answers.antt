@@ -5,22 +5,22 @@ use Rattle.store.proofs.Counts.{count_set}
 use Rattle.pages.proofs.Frame.{kept, items_kept, drafts_kept, text_is, draft_is, fits_is}
 use Rattle.pages.proofs.calls.PagedStoreStore.append.Goals as goal
 
-pub overflow-add-total : goal.overflow-add-total
-overflow-add-total c = let own = c.in-ok-len.ensures.1 in omega arith
+pub overflow_add-total : goal.overflow_add-total
+overflow_add-total c = let own = c.in_ok-len.ensures.1 in omega arith
 
 pub needed-requires : goal.needed-requires
-needed-requires c = let own = c.in-ok-len.ensures.1 in omega arith
+needed-requires c = let own = c.in_ok-len.ensures.1 in omega arith
 
 pub needed-requires-2 : goal.needed-requires-2
-needed-requires-2 c = let own = c.in-ok-len.ensures.1 in omega arith
+needed-requires-2 c = let own = c.in_ok-len.ensures.1 in omega arith
 
 pub returns-then-further-self : goal.returns-then-further-self
 returns-then-further-self c =
     let s = c.args.self.now in
     let d = c.args.draft in
-    let n = c.in-ok-len.len in
+    let n = c.in_ok-len.len in
     let piece = c.args.piece.now in
-    let own = c.in-ok-len.ensures.1 in
+    let own = c.in_ok-len.ensures.1 in
     let in-d : d < length s.drafts = omega (arith, own.0, s.five) in
     let is = draft_is (vec_items s.pages) s.drafts d (Some n) in-d own.1 in
     let fit = fits_is (vec_items s.pages) (vec_items s.entries) s.drafts d n s.limit piece in-d own.1 own.2 s.tally in
@@ -29,18 +29,18 @@ returns-then-further-self c =
 pub write-requires : goal.write-requires
 write-requires c =
     let s = c.args.self.now in
-    let own = c.in-ok-len.ensures.1 in
+    let own = c.in_ok-len.ensures.1 in
     record { has = own.2; small = omega arith; free = omega (arith, s.reserved, s.within, s.pages.ok.0, c.len.ensures, c.needed.ensures, c.needed-2.ensures) }
 
-pub invariant-of-self : goal.invariant-of-self
-invariant-of-self c =
+pub invariant_of-self : goal.invariant_of-self
+invariant_of-self c =
     let s = c.args.self.now in
     let d = c.args.draft in
-    let n = c.in-ok-len.len in
+    let n = c.in_ok-len.len in
     let piece = c.args.piece.now in
     let ps = vec_items s.pages in
     let qs = vec_items c.write.new.pages in
-    let own = c.in-ok-len.ensures.1 in
+    let own = c.in_ok-len.ensures.1 in
     let in-d : d < length s.drafts = omega (arith, own.0, s.five) in
     let more = c.write.ensures.items in
     let h = kept ps qs (vec_items s.entries) s.drafts d (Some n) (Some (n + length piece)) in-d own.1 more.others more.pages more.grown s.begun s.filings s.tally s.distinct in
@@ -51,12 +51,12 @@ pub returns : goal.returns
 returns c =
     let s = c.args.self.now in
     let d = c.args.draft in
-    let n = c.in-ok-len.len in
+    let n = c.in_ok-len.len in
     let piece = c.args.piece.now in
     let ps = vec_items s.pages in
     let fs = vec_items s.entries in
     let qs = vec_items c.write.new.pages in
-    let own = c.in-ok-len.ensures.1 in
+    let own = c.in_ok-len.ensures.1 in
     let in-d : d < length s.drafts = omega (arith, own.0, s.five) in
     let more = c.write.ensures.items in
     let is = draft_is ps s.drafts d (Some n) in-d own.1 in

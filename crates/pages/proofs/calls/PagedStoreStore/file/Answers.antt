@@ -9,54 +9,54 @@ use Rattle.store.proofs.Counts.{count_set}
 use Rattle.pages.proofs.Frame.{after_filing, text_is}
 use Rattle.pages.proofs.calls.PagedStoreStore.file.Goals as goal
 
-pub returns-in-err-len : goal.returns-in-err-len
-returns-in-err-len c =
-    let why = c.in-err-len.ensures in
-    let p = err_from_is_err_and c.from-residual.result c.from-residual.ensures.1 in
+pub returns-in_err-len : goal.returns-in_err-len
+returns-in_err-len c =
+    let why = c.in_err-len.ensures in
+    let p = err_from_is_err_and c.from_residual.result c.from_residual.ensures.1 in
     record { meaning = rw (p.1, p.2) (grind (arith, nat_tests), refl); limit = refl }
 
-pub push-reserved-requires : goal.push-reserved-requires
-push-reserved-requires c =
+pub push_reserved-requires : goal.push_reserved-requires
+push_reserved-requires c =
     let s = c.args.self.now in
-    let own = c.in-ok-len.ensures.1 in
+    let own = c.in_ok-len.ensures.1 in
     let in-d : c.args.draft < length s.drafts = omega (arith, own.0, s.five) in
-    let few = count_set is_some s.drafts c.args.draft (Some c.in-ok-len.len) None None in-d own.1 in
+    let few = count_set is_some s.drafts c.args.draft (Some c.in_ok-len.len) None None in-d own.1 in
     omega (arith, s.few, s.sixteen, s.entries.ok.0)
 
-pub invariant-of-self : goal.invariant-of-self
-invariant-of-self c =
+pub invariant_of-self : goal.invariant_of-self
+invariant_of-self c =
     let s = c.args.self.now in
     let d = c.args.draft in
-    let n = c.in-ok-len.len in
+    let n = c.in_ok-len.len in
     let ps = vec_items s.pages in
     let fs = vec_items s.entries in
-    let f : Entry = record { name = c.in-ok-own.own; len = n } in
-    let own = c.in-ok-len.ensures.1 in
+    let f : Entry = record { name = c.in_ok-own.own; len = n } in
+    let own = c.in_ok-len.ensures.1 in
     let in-d : d < length s.drafts = omega (arith, own.0, s.five) in
-    let absent = ap (λ x. position x (items_of ps fs)) c.in-ok-own.ensures.text ∙ sym c.in-default.ensures in
+    let absent = ap (λ x. position x (items_of ps fs)) c.in_ok-own.ensures.text ∙ sym c.in_default.ensures in
     let passed_is = c.pass.ensures.items ∙ ap (λ k. map (passed (Draft d) (Item k)) ps) (c.len.ensures ∙ s.entries.ok.0) in
-    let h = after_filing ps fs s.drafts d n f in-d own.1 refl s.begun s.filings _ _ passed_is c.push-reserved.ensures.items absent s.tally s.distinct in
+    let h = after_filing ps fs s.drafts d n f in-d own.1 refl s.begun s.filings _ _ passed_is c.push_reserved.ensures.items absent s.tally s.distinct in
     let few = count_set is_some s.drafts d (Some n) None None in-d own.1 in
     let long = h.6 in
     let more = h.7 in
-    (s.most, (omega (arith, s.within), (omega (arith, c.pass.ensures.capacity, s.reserved), (omega (arith, c.push-reserved.ensures.capacity, s.sixteen), (length-set _ _ _ ∙ s.five, (omega (arith, s.few), (h.0, (h.1, (h.2, (h.3, tt))))))))))
+    (s.most, (omega (arith, s.within), (omega (arith, c.pass.ensures.capacity, s.reserved), (omega (arith, c.push_reserved.ensures.capacity, s.sixteen), (length-set _ _ _ ∙ s.five, (omega (arith, s.few), (h.0, (h.1, (h.2, (h.3, tt))))))))))
 
 pub returns : goal.returns
 returns c =
     let s = c.args.self.now in
     let d = c.args.draft in
-    let n = c.in-ok-len.len in
+    let n = c.in_ok-len.len in
     let ps = vec_items s.pages in
     let fs = vec_items s.entries in
-    let f : Entry = record { name = c.in-ok-own.own; len = n } in
-    let why = c.in-ok-len.ensures.0 in
-    let own = c.in-ok-len.ensures.1 in
-    let named = c.in-ok-own.ensures in
+    let f : Entry = record { name = c.in_ok-own.own; len = n } in
+    let why = c.in_ok-len.ensures.0 in
+    let own = c.in_ok-len.ensures.1 in
+    let named = c.in_ok-own.ensures in
     let in-d : d < length s.drafts = omega (arith, own.0, s.five) in
-    let new = c.in-default.ensures in
+    let new = c.in_default.ensures in
     let absent = ap (λ x. position x (items_of ps fs)) named.text ∙ sym new in
     let passed_is = c.pass.ensures.items ∙ ap (λ k. map (passed (Draft d) (Item k)) ps) (c.len.ensures ∙ s.entries.ok.0) in
-    let h = after_filing ps fs s.drafts d n f in-d own.1 refl s.begun s.filings _ _ passed_is c.push-reserved.ensures.items absent s.tally s.distinct in
+    let h = after_filing ps fs s.drafts d n f in-d own.1 refl s.begun s.filings _ _ passed_is c.push_reserved.ensures.items absent s.tally s.distinct in
     let legal = named.legal in
     let name-is = named.text in
     let text-as = text_is ps s.drafts d n in-d own.1 in

@@ -16,19 +16,19 @@ pub returns-then-standing-ge16 : goal.returns-then-standing-ge16
 returns-then-standing-ge16 c =
     let s = c.args.self.now in
     let in-d : c.args.draft < length s.drafts = omega (arith, s.five) in
-    let is = draft_is (vec_items s.pages) s.drafts _ _ in-d c.in-default.is in
+    let is = draft_is (vec_items s.pages) s.drafts _ _ in-d c.in_default.is in
     let room = room_is (vec_items s.pages) (vec_items s.entries) s.drafts in
     record { meaning = (grind (arith, nat_tests), refl); limit = refl }
 
-pub invariant-of-self : goal.invariant-of-self
-invariant-of-self c =
+pub invariant_of-self : goal.invariant_of-self
+invariant_of-self c =
     let s = c.args.self.now in
     let d = c.args.draft in
     let ps = vec_items s.pages in
     let in-d : d < length s.drafts = omega (arith, s.five) in
-    let own = s.begun d ∙ ap (λ x. pages-needed (unwrap_or x 0)) c.in-default.is in
-    let h = kept ps ps (vec_items s.entries) s.drafts d None (Some 0) in-d c.in-default.is (λ v ne. refl) own refl s.begun s.filings s.tally s.distinct in
-    let few = count_set is_some s.drafts d None (Some 0) None in-d c.in-default.is in
+    let own = s.begun d ∙ ap (λ x. pages-needed (unwrap_or x 0)) c.in_default.is in
+    let h = kept ps ps (vec_items s.entries) s.drafts d None (Some 0) in-d c.in_default.is (λ v ne. refl) own refl s.begun s.filings s.tally s.distinct in
+    let few = count_set is_some s.drafts d None (Some 0) None in-d c.in_default.is in
     (s.most, (s.within, (s.reserved, (s.sixteen, (length-set _ _ _ ∙ s.five, (omega arith, (h.0, (h.1, (h.2, (h.3, tt))))))))))
 
 pub returns : goal.returns
@@ -37,6 +37,6 @@ returns c =
     let d = c.args.draft in
     let ps = vec_items s.pages in
     let in-d : d < length s.drafts = omega (arith, s.five) in
-    let is = draft_is ps s.drafts _ _ in-d c.in-default.is in
+    let is = draft_is ps s.drafts _ _ in-d c.in_default.is in
     let room = room_is ps (vec_items s.entries) s.drafts in
-    record { meaning = (grind (arith, nat_tests), (refl, drafts_kept ps ps (vec_items s.entries) s.drafts d None (Some 0) in-d c.in-default.is (λ v ne. refl))); limit = refl }
+    record { meaning = (grind (arith, nat_tests), (refl, drafts_kept ps ps (vec_items s.entries) s.drafts d None (Some 0) in-d c.in_default.is (λ v ne. refl))); limit = refl }

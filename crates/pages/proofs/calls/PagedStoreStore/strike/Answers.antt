@@ -8,23 +8,23 @@ use Rattle.store.proofs.Counts.{count_set}
 use Rattle.pages.proofs.Frame.{room_is, kept, items_kept, drafts_kept}
 use Rattle.pages.proofs.calls.PagedStoreStore.strike.Goals as goal
 
-pub invariant-of-self : goal.invariant-of-self
-invariant-of-self c =
+pub invariant_of-self : goal.invariant_of-self
+invariant_of-self c =
     let s = c.args.self.now in
     let d = c.args.draft in
     let ps = vec_items s.pages in
-    let qs = vec_items c.give-back.new.pages in
-    let n = c.in-ok-drafted.field-0 in
-    let own = c.in-ok-drafted.ensures.1 in
+    let qs = vec_items c.give_back.new.pages in
+    let n = c.in_ok-drafted.field-0 in
+    let own = c.in_ok-drafted.ensures.1 in
     let in-d : d < length s.drafts = omega (arith, own.0, s.five) in
-    let is = c.give-back.ensures.items in
+    let is = c.give_back.ensures.items in
     let others : (v : Owner) → (v ≡ Draft d → ⊥) → texts v qs ≡ texts v ps = λ v ne. ap (texts v) is ∙ without_other (Draft d) v ne ps in
     let none = ap (λ x. length (texts (Draft d) x)) is ∙ ap length (without_own (Draft d) ps) in
     let fewer = without_length (Draft d) ps in
     let long = ap length is in
     let h = kept ps qs (vec_items s.entries) s.drafts d (Some n) None in-d own.1 others none (omega (arith, own.2)) s.begun s.filings s.tally s.distinct in
     let few = count_set is_some s.drafts d (Some n) None None in-d own.1 in
-    (s.most, (omega (arith, s.within), (omega (arith, c.give-back.ensures.capacity, s.reserved), (s.sixteen, (length-set _ _ _ ∙ s.five, (omega (arith, s.few), (h.0, (h.1, (h.2, (h.3, tt))))))))))
+    (s.most, (omega (arith, s.within), (omega (arith, c.give_back.ensures.capacity, s.reserved), (s.sixteen, (length-set _ _ _ ∙ s.five, (omega (arith, s.few), (h.0, (h.1, (h.2, (h.3, tt))))))))))
 
 pub returns : goal.returns
 returns c =
@@ -32,11 +32,11 @@ returns c =
     let d = c.args.draft in
     let ps = vec_items s.pages in
     let fs = vec_items s.entries in
-    let qs = vec_items c.give-back.new.pages in
-    let n = c.in-ok-drafted.field-0 in
-    let own = c.in-ok-drafted.ensures.1 in
+    let qs = vec_items c.give_back.new.pages in
+    let n = c.in_ok-drafted.field-0 in
+    let own = c.in_ok-drafted.ensures.1 in
     let in-d : d < length s.drafts = omega (arith, own.0, s.five) in
-    let is = c.give-back.ensures.items in
+    let is = c.give_back.ensures.items in
     let others : (v : Owner) → (v ≡ Draft d → ⊥) → texts v qs ≡ texts v ps = λ v ne. ap (texts v) is ∙ without_other (Draft d) v ne ps in
     let few = count_set is_some s.drafts d (Some n) None None in-d own.1 in
-    record { meaning = (c.in-ok-drafted.ensures.0, (items_kept ps qs fs s.drafts d (Some n) None in-d own.1 others, drafts_kept ps qs fs s.drafts d (Some n) None in-d own.1 others, room_is qs fs (set s.drafts d None) ∙ lt-ltb _ _ (omega (arith, s.few)))); limit = refl }
+    record { meaning = (c.in_ok-drafted.ensures.0, (items_kept ps qs fs s.drafts d (Some n) None in-d own.1 others, drafts_kept ps qs fs s.drafts d (Some n) None in-d own.1 others, room_is qs fs (set s.drafts d None) ∙ lt-ltb _ _ (omega (arith, s.few)))); limit = refl }

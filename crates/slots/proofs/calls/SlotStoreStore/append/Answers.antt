@@ -9,27 +9,27 @@ use Rattle.slots.proofs.calls.SlotStoreStore.append.Goals as goal
 pub returns-then-piece-self : goal.returns-then-piece-self
 returns-then-piece-self c =
     let s = c.args.self.now in
-    let own = c.in-ok-slot.ensures.1 in
-    let text = text_is (vec_items s.memory) s.size s.owners s.drafts c.args.draft c.in-ok-slot.field-0 s.cut own.1 own.2 in
+    let own = c.in_ok-slot.ensures.1 in
+    let text = text_is (vec_items s.memory) s.size s.owners s.drafts c.args.draft c.in_ok-slot.field-0 s.cut own.1 own.2 in
     let long = ap length text.0 ∙ text.2 in
     record { meaning = (grind (arith, nat_tests), refl); size = refl }
 
 pub write-requires : goal.write-requires
 write-requires c =
     let s = c.args.self.now in
-    let e = c.in-ok-slot.field-0 in
-    let own = c.in-ok-slot.ensures.1 in
+    let e = c.in_ok-slot.field-0 in
+    let own = c.in_ok-slot.ensures.1 in
     let fits : e.len + length c.args.piece.now ≤ s.size = omega (arith, own.2.1) in
     omega (arith, before e.slot 16 s.size (e.len + length c.args.piece.now) own.2.0 fits, s.cut, s.memory.ok.0)
 
-pub invariant-of-self : goal.invariant-of-self
-invariant-of-self c =
+pub invariant_of-self : goal.invariant_of-self
+invariant_of-self c =
     let s = c.args.self.now in
     let d = c.args.draft in
-    let e = c.in-ok-slot.field-0 in
+    let e = c.in_ok-slot.field-0 in
     let piece = c.args.piece.now in
     let mem = vec_items s.memory in
-    let own = c.in-ok-slot.ensures.1 in
+    let own = c.in_ok-slot.ensures.1 in
     let in-s : e.slot < length s.owners = omega (arith, own.2.0, s.sixteen) in
     let in-d : d < length s.drafts = omega (arith, own.0, s.five) in
     let fits : e.len + length piece ≤ s.size = omega (arith, own.2.1) in
@@ -42,10 +42,10 @@ pub returns : goal.returns
 returns c =
     let s = c.args.self.now in
     let d = c.args.draft in
-    let e = c.in-ok-slot.field-0 in
+    let e = c.in_ok-slot.field-0 in
     let piece = c.args.piece.now in
     let mem = vec_items s.memory in
-    let own = c.in-ok-slot.ensures.1 in
+    let own = c.in_ok-slot.ensures.1 in
     let fits : e.len + length piece ≤ s.size = omega (arith, own.2.1) in
     let text = text_is mem s.size s.owners s.drafts d e s.cut own.1 own.2 in
     let long = ap length text.0 ∙ text.2 in

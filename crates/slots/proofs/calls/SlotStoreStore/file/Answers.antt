@@ -11,21 +11,21 @@ use Rattle.slots.proofs.Owners.{handed, filings_push, few_filed}
 use Rattle.slots.proofs.Appends.{text_is}
 use Rattle.slots.proofs.calls.SlotStoreStore.file.Goals as goal
 
-pub push-reserved-requires : goal.push-reserved-requires
-push-reserved-requires c =
+pub push_reserved-requires : goal.push_reserved-requires
+push_reserved-requires c =
     let s = c.args.self.now in
-    let own = c.in-ok-extent.ensures.1 in
+    let own = c.in_ok-extent.ensures.1 in
     let in-d : c.args.draft < length s.drafts = omega (arith, own.0, s.five) in
-    omega (arith, few_filed s.owners (vec_items s.entries) s.drafts c.args.draft c.in-ok-extent.extent s.sixteen in-d own.1 s.tally, s.room, s.entries.ok.0)
+    omega (arith, few_filed s.owners (vec_items s.entries) s.drafts c.args.draft c.in_ok-extent.extent s.sixteen in-d own.1 s.tally, s.room, s.entries.ok.0)
 
-pub invariant-of-self : goal.invariant-of-self
-invariant-of-self c =
+pub invariant_of-self : goal.invariant_of-self
+invariant_of-self c =
     let s = c.args.self.now in
     let d = c.args.draft in
-    let e = c.in-ok-extent.extent in
-    let own = c.in-ok-extent.ensures.1 in
+    let e = c.in_ok-extent.extent in
+    let own = c.in_ok-extent.ensures.1 in
     let fs = vec_items s.entries in
-    let f : Entry = record { name = c.in-ok-own.own; extent = e } in
+    let f : Entry = record { name = c.in_ok-own.own; extent = e } in
     let items = items_of (vec_items s.memory) s.size fs in
     let item : AnItem = item_of (vec_items s.memory) s.size f in
     let owners : List Owner = set s.owners e.slot (Item c.len.result) in
@@ -34,26 +34,26 @@ invariant-of-self c =
     let held : Held s.size owners (Item (length fs)) e = (own.2.0, own.2.1, get_or-set_same s.owners e.slot _ Nobody in-s ∙ ap Item (c.len.ensures ∙ s.entries.ok.0)) in
     let one_more = length_push fs f in
     let h = handed s.size s.owners s.drafts e.slot d (Item c.len.result) (Draft d) None (Some e) in-s in-d own.2.2 own.1 refl fs (fs ++ f ∷ []) (omega arith) (λ x q. grind arith) s.filings s.begun s.tally in
-    let new : position item.name items ≡ None = ap (λ n. position n items) c.in-ok-own.ensures.text ∙ sym c.in-default.ensures in
+    let new : position item.name items ≡ None = ap (λ n. position n items) c.in_ok-own.ensures.text ∙ sym c.in_default.ensures in
     let apart = subst Distinct (sym (map_push (item_of (vec_items s.memory) s.size) fs f)) (distinct_push items item new s.distinct) in
     let P : List Entry → Type 0 = λ gs. Filings s.size owners gs × Tally owners gs (set s.drafts d None) × Distinct (items_of (vec_items s.memory) s.size gs) in
-    let all = subst P (sym c.push-reserved.ensures.items) (filings_push s.size owners fs f held h.0, h.2, apart) in
-    (s.cut, (length-set _ _ _ ∙ s.five, (length-set _ _ _ ∙ s.sixteen, (all.0, (h.1, (all.1, (all.2, (omega (arith, c.push-reserved.ensures.capacity, s.room), tt))))))))
+    let all = subst P (sym c.push_reserved.ensures.items) (filings_push s.size owners fs f held h.0, h.2, apart) in
+    (s.cut, (length-set _ _ _ ∙ s.five, (length-set _ _ _ ∙ s.sixteen, (all.0, (h.1, (all.1, (all.2, (omega (arith, c.push_reserved.ensures.capacity, s.room), tt))))))))
 
 pub returns : goal.returns
 returns c =
     let s = c.args.self.now in
     let d = c.args.draft in
-    let e = c.in-ok-extent.extent in
-    let why = c.in-ok-extent.ensures.0 in
-    let own = c.in-ok-extent.ensures.1 in
-    let named = c.in-ok-own.ensures in
-    let new = c.in-default.ensures in
-    let f : Entry = record { name = c.in-ok-own.own; extent = e } in
+    let e = c.in_ok-extent.extent in
+    let why = c.in_ok-extent.ensures.0 in
+    let own = c.in_ok-extent.ensures.1 in
+    let named = c.in_ok-own.ensures in
+    let new = c.in_default.ensures in
+    let f : Entry = record { name = c.in_ok-own.own; extent = e } in
     let fs = vec_items s.entries in
     let mem = vec_items s.memory in
     let text = text_is mem s.size s.owners s.drafts d e s.cut own.1 own.2 in
     let legal = named.legal in
     let name-is = named.text in
     let text-as = text.0 in
-    record { meaning = (grind (arith, nat_tests), (ap (items_of mem s.size) c.push-reserved.ensures.items ∙ map_push (item_of mem s.size) fs f ∙ cc, map-set _ s.drafts d None)); size = refl }
+    record { meaning = (grind (arith, nat_tests), (ap (items_of mem s.size) c.push_reserved.ensures.items ∙ map_push (item_of mem s.size) fs f ∙ cc, map-set _ s.drafts d None)); size = refl }

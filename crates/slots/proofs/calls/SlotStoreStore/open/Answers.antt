@@ -13,29 +13,29 @@ returns-in-Some c =
     let is = draft_is (vec_items s.memory) s.size s.drafts _ _ c.in-Some.is in
     record { meaning = (grind (arith, nat_tests), refl); size = refl }
 
-pub returns-in-default-free-slot : goal.returns-in-default-free-slot
-returns-in-default-free-slot c =
+pub returns-in_default-free_slot : goal.returns-in_default-free_slot
+returns-in_default-free_slot c =
     let s = c.args.self.now in
-    let is = draft_is (vec_items s.memory) s.size s.drafts _ _ c.in-default.is in
-    let full = c.in-default-free-slot.ensures in
+    let is = draft_is (vec_items s.memory) s.size s.drafts _ _ c.in_default.is in
+    let full = c.in_default-free_slot.ensures in
     record { meaning = (grind (arith, nat_tests), refl); size = refl }
 
-pub invariant-of-self : goal.invariant-of-self
-invariant-of-self c =
+pub invariant_of-self : goal.invariant_of-self
+invariant_of-self c =
     let s = c.args.self.now in
     let d = c.args.draft in
-    let at = c.in-Some-free-slot.slot in
-    let own = c.in-Some-free-slot.ensures in
+    let at = c.in-Some-free_slot.slot in
+    let own = c.in-Some-free_slot.ensures in
     let e : Extent = record { slot = at; len = 0 } in
     let in-s : at < length s.owners = omega (arith, own.1, s.sixteen) in
     let in-d : d < length s.drafts = omega (arith, s.five) in
     let held : Held s.size (set s.owners at (Draft d)) (Draft d) e = (own.1, omega arith, get_or-set_same s.owners at (Draft d) Nobody in-s) in
-    let h = handed s.size s.owners s.drafts at d (Draft d) Nobody (Some e) None in-s in-d own.2 c.in-default.is tt _ _ (omega arith) (only (Held s.size (set s.owners at (Draft d)) (Draft d)) e held) s.filings s.begun s.tally in
+    let h = handed s.size s.owners s.drafts at d (Draft d) Nobody (Some e) None in-s in-d own.2 c.in_default.is tt _ _ (omega arith) (only (Held s.size (set s.owners at (Draft d)) (Draft d)) e held) s.filings s.begun s.tally in
     (s.cut, (length-set _ _ _ ∙ s.five, (length-set _ _ _ ∙ s.sixteen, (h.0, (h.1, (h.2, (s.distinct, (s.room, tt))))))))
 
 pub returns : goal.returns
 returns c =
     let s = c.args.self.now in
-    let is = draft_is (vec_items s.memory) s.size s.drafts _ _ c.in-default.is in
-    let free = c.in-Some-free-slot.ensures.0 in
+    let is = draft_is (vec_items s.memory) s.size s.drafts _ _ c.in_default.is in
+    let free = c.in-Some-free_slot.ensures.0 in
     record { meaning = (grind (arith, nat_tests), (refl, map-set _ s.drafts _ _)); size = refl }

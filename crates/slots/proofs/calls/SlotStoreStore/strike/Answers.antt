@@ -4,12 +4,12 @@ use Rattle.slots.specs.declared.parts.Owner.TheVariants.{Nobody, Draft}
 use Rattle.slots.proofs.Owners.{handed, room_after, room_is}
 use Rattle.slots.proofs.calls.SlotStoreStore.strike.Goals as goal
 
-pub invariant-of-self : goal.invariant-of-self
-invariant-of-self c =
+pub invariant_of-self : goal.invariant_of-self
+invariant_of-self c =
     let s = c.args.self.now in
     let d = c.args.draft in
-    let e = c.in-ok-extent.extent in
-    let own = c.in-ok-extent.ensures.1 in
+    let e = c.in_ok-extent.extent in
+    let own = c.in_ok-extent.ensures.1 in
     let in-s : e.slot < length s.owners = omega (arith, own.2.0, s.sixteen) in
     let in-d : d < length s.drafts = omega (arith, own.0, s.five) in
     let h = handed s.size s.owners s.drafts e.slot d Nobody (Draft d) None (Some e) in-s in-d own.2.2 own.1 refl _ _ (omega arith) (λ x q. grind arith) s.filings s.begun s.tally in
@@ -19,9 +19,9 @@ pub returns : goal.returns
 returns c =
     let s = c.args.self.now in
     let d = c.args.draft in
-    let e = c.in-ok-extent.extent in
-    let why = c.in-ok-extent.ensures.0 in
-    let own = c.in-ok-extent.ensures.1 in
+    let e = c.in_ok-extent.extent in
+    let why = c.in_ok-extent.ensures.0 in
+    let own = c.in_ok-extent.ensures.1 in
     let in-s : e.slot < length s.owners = omega (arith, own.2.0, s.sixteen) in
     let in-d : d < length s.drafts = omega (arith, own.0, s.five) in
     let room = room_is (vec_items s.memory) s.size (vec_items s.entries) (set s.drafts d None) ∙ room_after s.size s.owners s.drafts e.slot d Nobody (Draft d) None (Some e) in-s in-d own.2.2 own.1 refl _ _ (omega arith) s.tally s.sixteen refl in

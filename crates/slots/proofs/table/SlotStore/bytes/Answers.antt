@@ -11,8 +11,8 @@ returns-then-item-len c =
     let n = length-map (vec_items s.entries) (item_of (vec_items s.memory) s.size) in
     (grind (arith, nat_tests, s.entries.ok.0), tt)
 
-pub slice-bounds-result-end : goal.slice-bounds-result-end
-slice-bounds-result-end c =
+pub slice_bounds-result-end : goal.slice_bounds-result-end
+slice_bounds-result-end c =
     let s = c.args.self.now in
     let lt : c.args.item < length (vec_items s.entries) = omega (arith, s.entries.ok.0) in
     let held = filed_held s.size s.owners (vec_items s.entries) c.args.item c.index.result.now lt c.index.ensures s.filings in

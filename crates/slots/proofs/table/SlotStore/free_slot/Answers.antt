@@ -9,7 +9,7 @@ use Rattle.slots.proofs.table.SlotStore.free_slot.Goals as goal
 
 pub loop-slot-preserved : goal.loop-slot-preserved
 loop-slot-preserved c =
-    let more = owned_since _ c.in-default.not-Nobody in
+    let more = owned_since _ c.in_default.not-Nobody in
     let far : c.loop-slot.slot < length c.args.self.now.owners = omega (arith, c.args.self.now.sixteen) in
     search (rules, count_by_more_yes)
 
