@@ -8,7 +8,7 @@ use Rattle.options.proofs.accept.accept_pairs.Goals as goal
 pub returns-in-Err-settle : goal.returns-in-Err-settle
 returns-in-Err-settle c =
     let s = c.in-Ok.ensures in
-    let f = subst (λ rs. Finds rs s.0 c.in-Ok.scan.found) c.of-answer.ensures s.2.found in
+    let f = subst (λ rs. Finds rs s.0 c.in-Ok.scan.found) c.of_answer.ensures s.2.found in
     inr (
       refl,
       (

@@ -4,23 +4,23 @@ use Rattle.option_pairs.specs.Scan.{Finds}
 use Rattle.options.proofs.Settling.{answer_may_settle}
 use Rattle.options.proofs.offer.answer_pairs.Goals as goal
 
-pub returns-in-err-agreed : goal.returns-in-err-agreed
-returns-in-err-agreed c =
-    let s = c.in-ok-scan.ensures in
-    let f = subst (λ rs. Finds rs s.0 c.in-ok-scan.scan.found) c.of-request.ensures s.2.found in
+pub returns-in_err-agreed : goal.returns-in_err-agreed
+returns-in_err-agreed c =
+    let s = c.in_ok-scan.ensures in
+    let f = subst (λ rs. Finds rs s.0 c.in_ok-scan.scan.found) c.of_request.ensures s.2.found in
     let m = answer_may_settle c.args.own s.0 _ f in
     let a = c.answer-answer.ensures in
-    absurd (both_ways _ c.in-err-agreed.ensures.1 (rw a m))
+    absurd (both_ways _ c.in_err-agreed.ensures.1 (rw a m))
 
 pub returns : goal.returns
 returns c =
-    let s = c.in-ok-scan.ensures in
-    let f = subst (λ rs. Finds rs s.0 c.in-ok-scan.scan.found) c.of-request.ensures s.2.found in (
+    let s = c.in_ok-scan.ensures in
+    let f = subst (λ rs. Finds rs s.0 c.in_ok-scan.scan.found) c.of_request.ensures s.2.found in (
       s.0,
       s.1,
       record {
         once = s.2.once;
         answer = (_, f, c.answer-answer.ensures);
-        agreed = c.in-ok-agreed.ensures;
+        agreed = c.in_ok-agreed.ensures;
       },
     )

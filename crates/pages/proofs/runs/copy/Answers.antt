@@ -5,7 +5,7 @@ use Rattle.store.specs.Meaning.{part}
 use Rattle.pages.specs.Layout.{texts, flat}
 use Rattle.pages.proofs.Copies.{copied, flat_next, texts_next}
 use Rattle.pages.proofs.runs.copy.Goals as goal
-use Rattle.pages.proofs.runs.copy.Goals.{then_is, else_is}
+use Rattle.pages.proofs.runs.copy.Goals.{then-is, else-is}
 
 pub loop-i-init : goal.loop-i-init
 loop-i-init c =
@@ -24,7 +24,7 @@ loop-i-preserved c =
     let same-long : length c.loop-i.buf ≡ length was = c.loop-i.auto.buf in
     let done = c.loop-i.done in
     elim c.if-is.branch [
-      | then_is w ↦
+      | then-is w ↦
           let m = w.min-m.result in
           let s = w.min-s.result in
           let buf = c.loop-i.buf in
@@ -41,7 +41,7 @@ loop-i-preserved c =
             w.skip-is ∙ h.2 ∙ ap (λ x. from - length x) (sym next),
             omega (arith, w.done-is),
           )
-      | else_is w ↦
+      | else-is w ↦
           let next = ap flat (texts_next c.args.who ps i p lt c.index.ensures (sym w.if-is.ensures)) in (
             w.buf-is ∙ inv.0 ∙ ap (λ x. part x from (length was) ++ drop done was) (sym next) ∙ ap (λ k. part (flat (texts c.args.who (take (i + 1) ps))) from (length was) ++ drop k was) (sym w.done-is),
             w.done-is ∙ inv.1 ∙ ap (λ x. length (part x from (length was))) (sym next),

@@ -15,8 +15,8 @@ returns-then-n-lt10 t c =
       len = omega (arith, ap length d);
     }
 
-pub push-number-requires : goal.push-number-requires
-push-number-requires t c =
+pub push_number-requires : goal.push_number-requires
+push_number-requires t c =
     let l = one_more c.args.n c.if-n-lt10.false (search rules) in (search rules, omega arith)
 
 pub push-requires-2 : goal.push-requires-2
@@ -27,7 +27,7 @@ returns t c =
     let l = one_more c.args.n c.if-n-lt10.false (search rules) in
     record {
       text = c.push-2.ensures.text
-          ∙ ap (λ x. x ++ (48 + c.args.n % 10) ∷ []) c.push-number.ensures.text
+          ∙ ap (λ x. x ++ (48 + c.args.n % 10) ∷ []) c.push_number.ensures.text
           ∙ append_assoc (pair_text c.args.self.now) _ _
           ∙ ap (λ x. pair_text c.args.self.now ++ x) (sym (decimal_step c.args.n c.if-n-lt10.false (search rules)));
       len = omega arith;

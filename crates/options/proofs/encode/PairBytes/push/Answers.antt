@@ -8,4 +8,4 @@ front : (b p q : List ℕ) (at : ℕ) → q ≡ p → at + length p ≤ length b
 front b p q at e h = ap (λ l. take (at + length p) (put_mid at (at + length p - at) b l)) e ∙ search (rules, overwrites)
 
 pub returns : goal.returns
-returns c = record { text = front _ _ _ _ c.copy-from-slice.ensures.after (search rules); len = refl }
+returns c = record { text = front _ _ _ _ c.copy_from_slice.ensures.after (search rules); len = refl }

@@ -6,4 +6,4 @@ use Rattle.options.proofs.encode.calls.encode_options.Goals as goal
 pub returns : goal.returns
 returns c =
     three (entry (codes "blksize") c.args.options.blksize) (entry (codes "timeout") c.args.options.timeout)
-    (entry (codes "windowsize") c.args.options.windowsize) _ _ _ _ c.empty-out.ensures.text c.push-option.ensures.text c.push-option-2.ensures.text c.push-option-3.ensures.text
+    (entry (codes "windowsize") c.args.options.windowsize) _ _ _ _ c.empty-out.ensures.text c.push_option.ensures.text c.push_option-2.ensures.text c.push_option-3.ensures.text

@@ -45,7 +45,18 @@ invariant_of-self c =
     let more = c.write.ensures.items in
     let h = kept ps qs (vec_items s.entries) s.drafts d (Some n) (Some (n + length piece)) in-d own.1 more.others more.pages more.grown s.begun s.filings s.tally s.distinct in
     let few = count_set is_some s.drafts d (Some n) (Some (n + length piece)) None in-d own.1 in
-    (s.most, (omega (arith, more.grown, s.within, s.pages.ok.0, c.len.ensures, c.needed.ensures, c.needed-2.ensures), (omega (arith, c.write.ensures.capacity, s.reserved), (s.sixteen, (length-set _ _ _ ∙ s.five, (omega (arith, s.few), (h.0, (h.1, (h.2, (h.3, tt))))))))))
+    record {
+      most = s.most;
+      within = omega (arith, more.grown, s.within, s.pages.ok.0, c.len.ensures, c.needed.ensures, c.needed-2.ensures);
+      reserved = omega (arith, c.write.ensures.capacity, s.reserved);
+      sixteen = s.sixteen;
+      five = length-set _ _ _ ∙ s.five;
+      few = omega (arith, s.few);
+      begun = h.0;
+      filings = h.1;
+      tally = h.2;
+      distinct = h.3;
+    }
 
 pub returns : goal.returns
 returns c =

@@ -39,7 +39,18 @@ invariant_of-self c =
     let few = count_set is_some s.drafts d (Some n) None None in-d own.1 in
     let long = h.6 in
     let more = h.7 in
-    (s.most, (omega (arith, s.within), (omega (arith, c.pass.ensures.capacity, s.reserved), (omega (arith, c.push_reserved.ensures.capacity, s.sixteen), (length-set _ _ _ ∙ s.five, (omega (arith, s.few), (h.0, (h.1, (h.2, (h.3, tt))))))))))
+    record {
+      most = s.most;
+      within = omega (arith, s.within);
+      reserved = omega (arith, c.pass.ensures.capacity, s.reserved);
+      sixteen = omega (arith, c.push_reserved.ensures.capacity, s.sixteen);
+      five = length-set _ _ _ ∙ s.five;
+      few = omega (arith, s.few);
+      begun = h.0;
+      filings = h.1;
+      tally = h.2;
+      distinct = h.3;
+    }
 
 pub returns : goal.returns
 returns c =

@@ -1,6 +1,6 @@
 use Rattle.std.proofs.Common.{◌<◌, length, is_some, Some, None, vec_items, unwrap_or, refl, ap, ◌∙◌, arith, length-set}
 use Rattle.std.proofs.lemmas.Bool.Decides.{nat_tests}
-use Rattle.pages.specs.Layout.{goal as pages-needed}
+use Rattle.pages.specs.Layout.{need as pages_needed}
 use Rattle.store.proofs.Counts.{count_set}
 use Rattle.pages.proofs.Frame.{draft_is, room_is, kept, drafts_kept}
 use Rattle.pages.proofs.calls.PagedStoreStore.open.Goals as goal
@@ -26,10 +26,21 @@ invariant_of-self c =
     let d = c.args.draft in
     let ps = vec_items s.pages in
     let in-d : d < length s.drafts = omega (arith, s.five) in
-    let own = s.begun d ∙ ap (λ x. pages-needed (unwrap_or x 0)) c.in_default.is in
+    let own = s.begun d ∙ ap (λ x. pages_needed (unwrap_or x 0)) c.in_default.is in
     let h = kept ps ps (vec_items s.entries) s.drafts d None (Some 0) in-d c.in_default.is (λ v ne. refl) own refl s.begun s.filings s.tally s.distinct in
     let few = count_set is_some s.drafts d None (Some 0) None in-d c.in_default.is in
-    (s.most, (s.within, (s.reserved, (s.sixteen, (length-set _ _ _ ∙ s.five, (omega arith, (h.0, (h.1, (h.2, (h.3, tt))))))))))
+    record {
+      most = s.most;
+      within = s.within;
+      reserved = s.reserved;
+      sixteen = s.sixteen;
+      five = length-set _ _ _ ∙ s.five;
+      few = omega arith;
+      begun = h.0;
+      filings = h.1;
+      tally = h.2;
+      distinct = h.3;
+    }
 
 pub returns : goal.returns
 returns c =

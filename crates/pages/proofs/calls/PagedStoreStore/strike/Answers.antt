@@ -24,7 +24,18 @@ invariant_of-self c =
     let long = ap length is in
     let h = kept ps qs (vec_items s.entries) s.drafts d (Some n) None in-d own.1 others none (omega (arith, own.2)) s.begun s.filings s.tally s.distinct in
     let few = count_set is_some s.drafts d (Some n) None None in-d own.1 in
-    (s.most, (omega (arith, s.within), (omega (arith, c.give_back.ensures.capacity, s.reserved), (s.sixteen, (length-set _ _ _ ∙ s.five, (omega (arith, s.few), (h.0, (h.1, (h.2, (h.3, tt))))))))))
+    record {
+      most = s.most;
+      within = omega (arith, s.within);
+      reserved = omega (arith, c.give_back.ensures.capacity, s.reserved);
+      sixteen = s.sixteen;
+      five = length-set _ _ _ ∙ s.five;
+      few = omega (arith, s.few);
+      begun = h.0;
+      filings = h.1;
+      tally = h.2;
+      distinct = h.3;
+    }
 
 pub returns : goal.returns
 returns c =

@@ -36,7 +36,16 @@ invariant_of-self c =
     let long = ap length c.write.ensures ∙ length-after mem s.size e.slot e.len piece own.2.0 fits s.cut in
     let items = ap (λ m. items_of m s.size (vec_items s.entries)) c.write.ensures ∙ items_after mem s.size s.owners s.drafts d e s.cut own.1 own.2 piece fits (vec_items s.entries) s.filings in
     let h = stays mem s.size s.owners s.drafts d e s.cut own.1 own.2 piece fits (vec_items s.entries) in-s in-d s.filings s.begun s.tally in
-    (omega (arith, long, s.cut), (length-set _ _ _ ∙ s.five, (s.sixteen, (s.filings, (h.0, (h.1, (subst Distinct (sym items) s.distinct, (s.room, tt))))))))
+    record {
+      cut = omega (arith, long, s.cut);
+      five = length-set _ _ _ ∙ s.five;
+      sixteen = s.sixteen;
+      filings = s.filings;
+      begun = h.0;
+      tally = h.1;
+      distinct = subst Distinct (sym items) s.distinct;
+      room = s.room;
+    }
 
 pub returns : goal.returns
 returns c =

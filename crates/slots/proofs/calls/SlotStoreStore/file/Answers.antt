@@ -38,7 +38,16 @@ invariant_of-self c =
     let apart = subst Distinct (sym (map_push (item_of (vec_items s.memory) s.size) fs f)) (distinct_push items item new s.distinct) in
     let P : List Entry → Type 0 = λ gs. Filings s.size owners gs × Tally owners gs (set s.drafts d None) × Distinct (items_of (vec_items s.memory) s.size gs) in
     let all = subst P (sym c.push_reserved.ensures.items) (filings_push s.size owners fs f held h.0, h.2, apart) in
-    (s.cut, (length-set _ _ _ ∙ s.five, (length-set _ _ _ ∙ s.sixteen, (all.0, (h.1, (all.1, (all.2, (omega (arith, c.push_reserved.ensures.capacity, s.room), tt))))))))
+    record {
+      cut = s.cut;
+      five = length-set _ _ _ ∙ s.five;
+      sixteen = length-set _ _ _ ∙ s.sixteen;
+      filings = all.0;
+      begun = h.1;
+      tally = all.1;
+      distinct = all.2;
+      room = omega (arith, c.push_reserved.ensures.capacity, s.room);
+    }
 
 pub returns : goal.returns
 returns c =

@@ -31,7 +31,16 @@ invariant_of-self c =
     let in-d : d < length s.drafts = omega (arith, s.five) in
     let held : Held s.size (set s.owners at (Draft d)) (Draft d) e = (own.1, omega arith, get_or-set_same s.owners at (Draft d) Nobody in-s) in
     let h = handed s.size s.owners s.drafts at d (Draft d) Nobody (Some e) None in-s in-d own.2 c.in_default.is tt _ _ (omega arith) (only (Held s.size (set s.owners at (Draft d)) (Draft d)) e held) s.filings s.begun s.tally in
-    (s.cut, (length-set _ _ _ ∙ s.five, (length-set _ _ _ ∙ s.sixteen, (h.0, (h.1, (h.2, (s.distinct, (s.room, tt))))))))
+    record {
+      cut = s.cut;
+      five = length-set _ _ _ ∙ s.five;
+      sixteen = length-set _ _ _ ∙ s.sixteen;
+      filings = h.0;
+      begun = h.1;
+      tally = h.2;
+      distinct = s.distinct;
+      room = s.room;
+    }
 
 pub returns : goal.returns
 returns c =

@@ -13,7 +13,16 @@ invariant_of-self c =
     let in-s : e.slot < length s.owners = omega (arith, own.2.0, s.sixteen) in
     let in-d : d < length s.drafts = omega (arith, own.0, s.five) in
     let h = handed s.size s.owners s.drafts e.slot d Nobody (Draft d) None (Some e) in-s in-d own.2.2 own.1 refl _ _ (omega arith) (λ x q. grind arith) s.filings s.begun s.tally in
-    (s.cut, (length-set _ _ _ ∙ s.five, (length-set _ _ _ ∙ s.sixteen, (h.0, (h.1, (h.2, (s.distinct, (s.room, tt))))))))
+    record {
+      cut = s.cut;
+      five = length-set _ _ _ ∙ s.five;
+      sixteen = length-set _ _ _ ∙ s.sixteen;
+      filings = h.0;
+      begun = h.1;
+      tally = h.2;
+      distinct = s.distinct;
+      room = s.room;
+    }
 
 pub returns : goal.returns
 returns c =
