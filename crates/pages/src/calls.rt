@@ -1,6 +1,6 @@
 // The calls of a paged store as a store.
 ghost use Rattle.std.specs.Prelude.{◌≡◌};
-ghost use Rattle.std.proofs.Common.{◌∙◌, rules, arith};
+ghost use Rattle.std.proofs.Common.{◌∙◌};
 ghost use Rattle.store.specs.Meaning.{Opened, Appended, Filed, Struck};
 ghost use Rattle.pages.specs.Rules.{page_items, page_drafts, page_opens, page_takes};
 ghost use Rattle.pages.specs.Indexed.{length-imap};
@@ -24,7 +24,7 @@ impl Store for PagedStore {
 
     ghost five = { λ s. length-imap _ s.drafts ∙ s.five };
 
-    ghost distinct = { first_of (Prim.search rules, Prim.grind (arith, Self.row.coded.inj)) };
+    ghost distinct = { λ s. s.distinct };
 
     fn find(&self, name: &[u8]) -> Option<usize> {
         for (i, entry) in self.entries.iter().enumerate() {

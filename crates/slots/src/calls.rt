@@ -1,6 +1,6 @@
 // Setting up a slot store, and its calls as a store.
 ghost use Rattle.std.specs.Prelude.{◌≡◌};
-ghost use Rattle.std.proofs.Common.{◌∙◌, rules, arith};
+ghost use Rattle.std.proofs.Common.{◌∙◌};
 ghost use Rattle.store.specs.Meaning.{Opened, Appended, Filed, Struck};
 ghost use Rattle.slots.specs.Rules.{SetUp, slot_items, slot_drafts, slot_opens, slot_takes};
 ghost use Rattle.std.proofs.lemmas.List.{length-map};
@@ -49,7 +49,7 @@ impl Store for SlotStore {
 
     ghost five = { λ s. length-map s.drafts _ ∙ s.five };
 
-    ghost distinct = { first_of (Prim.search rules, Prim.grind (arith, Self.row.coded.inj)) };
+    ghost distinct = { λ s. s.distinct };
 
     fn find(&self, name: &[u8]) -> Option<usize> {
         for (i, entry) in self.entries.iter().enumerate() {

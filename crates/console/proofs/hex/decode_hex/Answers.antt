@@ -4,14 +4,14 @@ use Rattle.console.specs.Hex.{hex_bytes}
 use Rattle.console.proofs.Decoding.{after, more, bad, whole, odd}
 use Rattle.console.proofs.hex.decode_hex.Goals as goal
 
-pub returns-in-default : goal.returns-in-default
-returns-in-default c =
-    let e = sym c.in-default.ensures in
+pub returns-in_default : goal.returns-in_default
+returns-in_default c =
+    let e = sym c.in_default.ensures in
     (bad c.args.digits.now (vec_items c.loop-at.bytes) c.loop-at.at c.loop-at-test.true e c.loop-at.invariant.1, e)
 
 pub loop-at-preserved : goal.loop-at-preserved
 loop-at-preserved c =
-    let p = pushed (c.in-Some.byte ∷ []) refl c.in-ok-push.was c.push.ensures.items in (
+    let p = pushed (c.in-Some.byte ∷ []) refl c.in_ok-push.was c.push.ensures.items in (
       omega arith,
       ap (λ l. after l (hex_bytes (drop (c.loop-at.at + 2) c.args.digits.now))) p
           ∙ more c.args.digits.now (vec_items c.loop-at.bytes) c.loop-at.at c.in-Some.byte c.loop-at-test.true (sym c.in-Some.ensures) c.loop-at.invariant.1,
