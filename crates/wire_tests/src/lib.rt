@@ -136,7 +136,7 @@ fn modes(rt: HostRuntime) {
         };
         assert_eq!(rt; got, number);
     }
-    assert!(rt; Mode::Octet.text() == b"octet");
+    assert!(rt; Mode::Octet.text() == b"octet".as_slice());
 }
 
 #[test]
@@ -158,7 +158,7 @@ fn buffers(rt: HostRuntime) {
     assert!(rt; is_all(&even[4..1472], 9));
     let mut long = [7; 1500];
     assert_eq!(rt; write_number(Message::ack(258), &mut long), 0);
-    assert!(rt; &long[0..4] == b"\0\x04\x01\x02");
+    assert!(rt; &long[0..4] == b"\0\x04\x01\x02".as_slice());
     assert!(rt; is_all(&long[4..1500], 7));
 }
 
@@ -244,7 +244,11 @@ fn returns(rt: HostRuntime) -> Result<(), Fail> {
                 pairs,
             },
         ) => {
-            assert!(rt; name == b"boot" && mode == b"octet" && pairs == b"blksize\01024\0");
+            assert!(rt;
+                name == b"boot".as_slice()
+                    && mode == b"octet".as_slice()
+                    && pairs == b"blksize\01024\0".as_slice()
+            );
             Ok(())
         },
         _ => Err(Fail::new("another message")),
@@ -274,7 +278,7 @@ fn texts(rt: HostRuntime) -> Result<(), Fail> {
     assert!(rt; is_paired(b"") && is_paired(b"a\0\0") && !is_paired(b"\0a\0"));
     match cut(b"a\0b\0") {
         Some((text, rest)) => {
-            assert!(rt; text == b"a" && rest == b"b\0");
+            assert!(rt; text == b"a".as_slice() && rest == b"b\0".as_slice());
             Ok(())
         },
         None => Err(Fail::new("no zero byte")),
