@@ -1,11 +1,11 @@
 -- What one pair makes of the values found so far.
-use Rattle.std.proofs.Common.{◌≡◌, ℕ, Bool, true, false, ◌&&◌, ◌||◌, ◌⊎◌, List, is_some, Some, None, codes, Option, sym, refl, ◌∙◌, inl, inr, arith, rules, MatchOption}
+use Rattle.std.proofs.Common.{◌≡◌, ℕ, Bool, true, false, ◌&&◌, ◌||◌, List, is_some, Some, None, codes, Option, inl, inr, rules, MatchOption}
 use Rattle.std.specs.Option.{option_or}
 use Rattle.grammar.specs.Grammar.{Pair}
 use Rattle.option_pairs.specs.declared.values.Range.{Range}
 use Rattle.option_pairs.specs.declared.values.Ranges.{Ranges}
 use Rattle.option_pairs.specs.Number.{numeral_value}
-use Rattle.option_pairs.specs.Scan.{Fits, Fitting, Pick, Judge}
+use Rattle.option_pairs.specs.Scan.{Fits, Pick, Judge}
 
 -- v is the number of the pair, where it is the option w in the range
 abbrev pub Valid : List ℕ → Range → Pair → Option ℕ → Type 0

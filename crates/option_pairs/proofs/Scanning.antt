@@ -8,7 +8,7 @@ use Rattle.option_pairs.specs.declared.values.Ranges.{Ranges}
 use Rattle.option_pairs.specs.declared.scan.Scan.{Scan}
 use Rattle.option_pairs.specs.Number.{numeral_value}
 use Rattle.option_pairs.specs.Pairs.{twice}
-use Rattle.option_pairs.specs.Scan.{Fits, Fitting, Pick, Judge, Wants, Held, Finds, Scanned, Notes}
+use Rattle.option_pairs.specs.Scan.{Fitting, Pick, Judge, Wants, Held, Scanned, Notes}
 
 -- r is what the pairs make of the value o
 abbrev pub Chosen : List ℕ → Range → Option ℕ → List Pair → Option ℕ → Type 0

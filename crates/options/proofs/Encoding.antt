@@ -1,5 +1,5 @@
 -- Pairs written part by part.
-use Rattle.std.proofs.Common.{◌≡◌, ℕ, List, [], ◌∷◌, ◌++◌, sym, refl, ap, ◌∙◌, append_assoc}
+use Rattle.std.proofs.Common.{◌≡◌, ℕ, List, [], ◌∷◌, ◌++◌, refl, ap, ◌∙◌, append_assoc}
 use Rattle.grammar.specs.Grammar.{Pair, pairs}
 
 -- a name, a zero, a value and a zero, one after the other

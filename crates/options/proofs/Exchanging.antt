@@ -1,21 +1,19 @@
 -- Why the cabin's answer is accepted.
-use Rattle.std.proofs.Common.{◌≡◌, ℕ, ◌<◌, ◌≤◌, min, true, false, ◌&&◌, eqb, leb, ◌⊎◌, List, Some, None, Ok, Err, Option, Result, unwrap_or, sym, refl, ap, ◌∙◌, inl, inr, ⊎_elim, arith, rules}
-use Rattle.std.proofs.lemmas.Bool.{cases_Bool, cond_both, cond-true, and_from, and_parts, or_cases, both_ways, eqb-true, eqb-false, leb-true}
+use Rattle.std.proofs.Common.{◌≡◌, ℕ, ◌<◌, ◌≤◌, min, true, ◌&&◌, eqb, leb, Some, None, Ok, Err, Option, unwrap_or, sym, refl, ap, ◌∙◌, inl, inr, ⊎_elim, arith, rules}
+use Rattle.std.proofs.lemmas.Bool.{cond_both, cond-true, and_from, and_parts, or_cases, both_ways, eqb-true, eqb-false, leb-true}
 use Rattle.std.proofs.lemmas.Bool.Decides.{nat_tests}
 use Rattle.terms.specs.declared.agreed.Agreed.{Agreed}
 use Rattle.terms.specs.declared.patience.Patience.{Patience}
 use Rattle.terms.specs.declared.refusal.Refusal.{Refusal}
 use Rattle.terms.specs.Patiences.{legal_patience}
 use Rattle.terms.specs.Sizes.{legal_sizes}
-use Rattle.grammar.specs.Grammar.{Pair, pairs, Paired}
+use Rattle.grammar.specs.Grammar.{pairs}
 use Rattle.options.specs.declared.offer.Offer.{Offer}
 use Rattle.option_pairs.specs.declared.values.Options.{Options}
-use Rattle.option_pairs.specs.declared.values.Range.{Range}
-use Rattle.option_pairs.specs.declared.values.Ranges.{Ranges}
 use Rattle.options.specs.Agreement.{given, may_ask, asked_options, cut_to, kept_if_legal, answered, Settled, may_settle, Offers, Accepts, Accepting}
 use Rattle.options.specs.Exchange.{Hears}
 use Rattle.options.specs.Listing.{listed}
-use Rattle.option_pairs.specs.Pairs.{Are, twice}
+use Rattle.option_pairs.specs.Pairs.{Are}
 use Rattle.option_pairs.specs.Values.{range, up_to, just, request_ranges, answer_ranges}
 use Rattle.option_pairs.proofs.Found.{one_found}
 use Rattle.option_pairs.proofs.Heads.{one_pairs}

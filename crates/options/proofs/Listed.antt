@@ -1,13 +1,13 @@
 -- The pairs that an end sends: they are pairs, no name comes twice, and they give the options that were listed.
-use Rattle.std.proofs.Common.{◌≡◌, ℕ, ◌+◌, ◌<◌, ◌≤◌, false, ◌⊎◌, List, [], ◌∷◌, ◌++◌, map, length, get_or, Some, None, codes, decimal, Option, sym, refl, ap, ◌∙◌, inl, inr, ⊎_elim, arith, rules}
+use Rattle.std.proofs.Common.{◌≡◌, ℕ, ◌<◌, ◌≤◌, false, List, [], ◌∷◌, ◌++◌, map, length, get_or, Some, None, codes, decimal, Option, sym, refl, ap, inl, inr, arith, rules}
 use Rattle.std.specs.Char.{to_ascii_lowercase}
 use Rattle.std.specs.List.{AllByRecursion}
-use Rattle.grammar.specs.Grammar.{Text, Pair, Good, pairs, Paired}
+use Rattle.grammar.specs.Grammar.{Text, Pair, Good}
 use Rattle.option_pairs.specs.declared.values.Options.{Options}
 use Rattle.option_pairs.specs.declared.values.Range.{Range}
 use Rattle.option_pairs.specs.declared.values.Ranges.{Ranges}
 use Rattle.options.specs.Listing.{entry, listed}
-use Rattle.option_pairs.specs.Pairs.{Are, twice}
+use Rattle.option_pairs.specs.Pairs.{twice}
 use Rattle.option_pairs.specs.Scan.{Fits, Fitting, Wants, Held, Finds}
 use Rattle.options.proofs.Digits.{value_is, numeral_decimal, text_decimal}
 

@@ -1,5 +1,5 @@
 -- What the cabin makes of a request before it asks its store. Assumes nothing.
-use Rattle.std.specs.Prelude.{◌≡◌, ℕ, true, false, ◌⊎◌, List, Ok, Err, Result}
+use Rattle.std.specs.Prelude.{◌≡◌, ℕ, true, false, List, Ok, Err, Result}
 use Rattle.terms.specs.declared.patience.Patience.{Patience}
 use Rattle.terms.specs.declared.refusal.Refusal.{Refusal}
 use Rattle.terms.specs.declared.refusal.Refusal.TheVariants.{IllegalName, UnsupportedMode}

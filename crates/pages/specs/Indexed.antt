@@ -1,5 +1,5 @@
 -- A map that is told the position of each element. Assumes nothing.
-use Rattle.std.specs.Prelude.{◌≡◌, ℕ, zero, suc, ◌+◌, ◌<◌, List, [], ◌∷◌, ◌++◌, length, set, ◌≢◌, slice_index_or, slice_set, refl}
+use Rattle.std.specs.Prelude.{◌≡◌, ℕ, zero, suc, ◌<◌, List, [], ◌∷◌, ◌++◌, length, ◌≢◌, slice_index_or, slice_set, refl}
 use Rattle.std.proofs.Common.{ap, arith}
 use Rattle.pages.specs.Layout.{imap}
 

@@ -1,5 +1,5 @@
 -- Datagrams taken apart: a number of two bytes, a message after its opcode.
-use Rattle.std.proofs.Common.{◌≡◌, ℕ, suc, ◌+◌, ◌-◌, ◌*◌, ◌/◌, ◌%◌, ◌<◌, ◌≤◌, List, [], ◌∷◌, ◌++◌, length, get_or, take, drop, Ok, Err, Result, sym, refl, ap, ◌∙◌, inr, arith, rules}
+use Rattle.std.proofs.Common.{◌≡◌, ℕ, ◌+◌, ◌-◌, ◌*◌, ◌/◌, ◌%◌, ◌<◌, ◌≤◌, List, [], ◌∷◌, ◌++◌, length, get_or, take, drop, Ok, Err, Result, sym, ap, ◌∙◌, inr, arith, rules}
 use Rattle.std.proofs.lemmas.List.{take_rest}
 use Rattle.terms.specs.declared.refusal.Refusal.{Refusal}
 use Rattle.grammar.specs.declared.message.Message.{Message}

@@ -1,6 +1,6 @@
-use Rattle.std.proofs.Common.{◌≡◌, ℕ, ◌+◌, ◌-◌, ◌*◌, ◌≤◌, List, [], ◌∷◌, get_or, drop, sym, ap, ◌∙◌, arith, rules, below_more}
+use Rattle.std.proofs.Common.{ℕ, ◌+◌, ◌-◌, ◌*◌, ◌≤◌, List, [], ◌∷◌, get_or, drop, arith, rules, below_more}
 use Rattle.std.proofs.lemmas.List.{at_drop_more, at_drop_all}
-use Rattle.option_pairs.specs.Number.{read_on, numeral_value}
+use Rattle.option_pairs.specs.Number.{read_on}
 use Rattle.option_pairs.proofs.number.number.Goals as goal
 
 grows : (n : ℕ) (bs : List ℕ) → n ≤ read_on n bs

@@ -1,5 +1,4 @@
 use Rattle.std.proofs.Common.{◌<◌, length, ap, arith, rules}
-use Rattle.grammar.specs.Meaning.{Cut}
 use Rattle.grammar.proofs.Bytes.{one_cut, no_cut}
 use Rattle.option_pairs.proofs.pairs.first.Goals as goal
 
