@@ -19,7 +19,7 @@ for edit in refused/*.edit; do
         END { exit n != 1 }' "crates/store/$file" >"$copy/crates/store/$file"; then
         echo "$edit: does not apply"
         failed=1
-    elif (cd "$copy" && rt dev store 2>&1) | grep -q "error\[$code\]"; then
+    elif (cd "$copy/crates/store" && rt check 2>&1) | grep -q "error\[$code\]"; then
         echo "$edit: refused by $code"
     else
         echo "$edit: NOT refused by $code"

@@ -13,7 +13,8 @@ use Rattle.pages.specs.declared.parts.Page.{Page}
 use Rattle.pages.specs.declared.parts.Entry.{Entry}
 use Rattle.pages.specs.declared.parts.Owner.{Owner}
 use Rattle.pages.specs.declared.parts.Owner.TheVariants.{Draft, Item}
-use Rattle.pages.specs.Indexed.{length-imap, imap-set, imap-push, get_or-imap, imap_same, imap_same_but}
+use Rattle.pages.specs.Indexed.{length-imap}
+use Rattle.pages.proofs.Indexed.{imap-set, imap-push, get_or-imap, imap_same, imap_same_but}
 use Rattle.pages.proofs.Texts.{length-content, passed_other, passed_from, passed_to}
 
 -- a draft as the store means it
