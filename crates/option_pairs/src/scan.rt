@@ -20,7 +20,7 @@ pub struct Scan {
 
 // The number of the pair, where it is the option with this word and its number lies in the range.
 fn valid(word: &[u8], range: Range, name: &[u8], value: &[u8]) -> Option<u32>
-    ensures { MatchOption result (Fits word.now range (record { name = name.entry.now; value = value.now }) → ⊥) (λ n. Fits word.now range (record { name = name.entry.now; value = value.now }) × (n ≡ numeral_value value.now)) }
+    ensures { MatchOption result (Fits word.now range (record { name = name.now; value = value.now }) → ⊥) (λ n. Fits word.now range (record { name = name.now; value = value.now }) × (n ≡ numeral_value value.now)) }
 {
     match number(value) {
         Some(n) if name.eq_ignore_ascii_case(word) && range.low <= n && n <= range.high => Some(n),
@@ -43,7 +43,7 @@ fn both(a: bool, b: bool) -> bool
 impl Scan {
     // One pair more.
     fn note(self, ranges: Ranges, name: &[u8], value: &[u8]) -> Scan
-        ensures { Notes ranges self (record { name = name.entry.now; value = value.now }) result }
+        ensures { Notes ranges self (record { name = name.now; value = value.now }) result }
     {
         let blksize = valid(b"blksize", ranges.blksize, name, value);
         let timeout = valid(b"timeout", ranges.timeout, name, value);
