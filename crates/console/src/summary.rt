@@ -1,6 +1,6 @@
 // A datagram in one line of words, as `WRQ pipe-0412 octet blksize=1468` or `DATA 3 1468`.
 use crate::shown::Shown;
-use grammar::message::{Access, Message};
+use grammar::message::{Access, Message, Request};
 use option_pairs::pairs::first;
 use std::fmt;
 
@@ -18,33 +18,21 @@ fn show_pairs<W: fmt::Write>(pairs: &[u8], f: &mut fmt::Formatter<W>) -> fmt::Re
     Ok(())
 }
 
-fn show_request<W: fmt::Write>(
-    access: Access,
-    name: &[u8],
-    mode: &[u8],
-    f: &mut fmt::Formatter<W>,
-) -> fmt::Result {
-    let word = match access {
+fn show_request<W: fmt::Write>(request: Request<'_>, f: &mut fmt::Formatter<W>) -> fmt::Result {
+    let word = match request.access {
         Access::Read => "RRQ",
         Access::Write => "WRQ",
     };
-    let name = Shown(name);
-    let mode = Shown(mode);
-    write!(f, "{word} {name} {mode}")
+    let name = Shown(request.name);
+    let mode = Shown(request.mode);
+    write!(f, "{word} {name} {mode}")?;
+    show_pairs(request.pairs, f)
 }
 
 impl fmt::Display for Summary<'_> {
     fn fmt<W: fmt::Write>(&self, f: &mut fmt::Formatter<W>) -> fmt::Result {
         match self.0 {
-            Message::Request {
-                access,
-                name,
-                mode,
-                pairs,
-            } => {
-                show_request(access, name, mode, f)?;
-                show_pairs(pairs, f)
-            }
+            Message::Request(request) => show_request(request, f),
             Message::Data { block, bytes } => {
                 let len = bytes.len();
                 write!(f, "DATA {block} {len}")

@@ -1,7 +1,7 @@
 // A captured datagram explained in words.
 use console::shown::Quoted;
 use console::summary::Summary;
-use grammar::message::{Access, Message};
+use grammar::message::{Access, Message, Request};
 use grammar::places::Places;
 use option_pairs::pairs::first;
 use options::encode::encode_oack;
@@ -44,25 +44,20 @@ fn print_refusal(rt: &HostRuntime, why: Refusal) -> io::Result<()> {
 fn explain_message(rt: &HostRuntime, message: Message<'_>) -> io::Result<()> {
     match (message, message.places()) {
         (
-            Message::Request {
-                access,
-                name,
-                mode,
-                pairs,
-            },
+            Message::Request(request),
             Places::Request {
                 name: name_at,
                 mode: mode_at,
                 pairs: pairs_at,
             },
         ) => {
-            explain_access(rt, access)?;
-            let name_text = Quoted(name);
+            explain_access(rt, request.access)?;
+            let name_text = Quoted(request.name);
             println!(rt; "  name {name_text} at {name_at}")?;
-            let mode_text = Quoted(mode);
+            let mode_text = Quoted(request.mode);
             println!(rt; "  mode {mode_text} at {mode_at}")?;
-            explain_pairs(rt, pairs, pairs_at)?;
-            explain_service(rt, name, mode, pairs)
+            explain_pairs(rt, request.pairs, pairs_at)?;
+            explain_service(rt, request)
         }
         (Message::Data { block, bytes }, Places::Data { bytes: at }) => {
             let len = bytes.len();
@@ -109,8 +104,8 @@ fn explain_pairs(rt: &HostRuntime, pairs: &[u8], at: usize) -> io::Result<()> {
 }
 
 // What a cabin of standard patience would make of the request.
-fn explain_service(rt: &HostRuntime, name: &[u8], mode: &[u8], pairs: &[u8]) -> io::Result<()> {
-    match judge_request(name, mode, pairs, Patience::standard()) {
+fn explain_service(rt: &HostRuntime, request: Request<'_>) -> io::Result<()> {
+    match judge_request(request, Patience::standard()) {
         Ok(offer) => match encode_oack(offer.answer) {
             Some(oack) => {
                 let words = Summary(Message::Oack {

@@ -1,13 +1,7 @@
 -- A text up to its zero byte.
-use Rattle.std.proofs.Common.{◌≡◌, ℕ, suc, ◌+◌, ◌-◌, ◌<◌, List, [], ◌∷◌, ◌++◌, length, get_or, take, drop, sym, refl, ◌∙◌, arith}
-use Rattle.std.proofs.lemmas.List.{drop_more, take_rest, take-append-drop}
+use Rattle.std.proofs.Common.{◌≡◌, ℕ, suc, List, [], ◌∷◌, ◌++◌, sym, refl, ◌∙◌, arith}
 use Rattle.grammar.specs.Grammar.{Text}
 use Rattle.grammar.specs.Meaning.{Cut}
-
-pub cut_is : (xs : List ℕ) (i : ℕ) → i < length xs → get_or xs i 0 ≡ 0 → take (i - 0) xs ++ 0 ∷ take (length xs - (i + 1)) (drop (i + 1) xs) ≡ xs
-cut_is xs i h e =
-    let z : i - 0 ≡ i = omega arith in
-    rw (z, take_rest, ← e, ← drop_more xs i 0 h, take-append-drop)
 
 -- a text ends at its first zero byte, so there is one way to cut
 pub tail : (b : ℕ) (bs : List ℕ) → Text (b ∷ bs) → Text bs

@@ -6,7 +6,7 @@ use Rattle.grammar.specs.Grammar.{Msg, requestMsg, blockMsg, ackMsg, faultMsg, o
 
 -- the message that a value stands for
 abbrev pub meaning : Message → Msg
-meaning (Request a n m ps) = requestMsg a n.now m.now ps.now
+meaning (Request r) = requestMsg r.access r.name.now r.mode.now r.pairs.now
 meaning (Data n bs) = blockMsg n bs.now
 meaning (Ack n) = ackMsg n
 meaning (Error n text) = faultMsg n text.now

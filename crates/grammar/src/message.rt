@@ -4,35 +4,29 @@ ghost use Rattle.grammar.specs.Grammar.{ackMsg};
 ghost use Rattle.grammar.specs.Meaning.{meaning};
 
 // What a request asks for: to read an item, or to write one.
-#[derive(Clone, Copy, PartialEq, Eq)]
+#[derive(Clone, Copy, PartialEq, Eq, Debug)]
 pub enum Access {
     Read,
     Write,
 }
 
-#[derive(Clone, Copy)]
+// RRQ or WRQ.
+#[derive(Clone, Copy, PartialEq, Eq, Debug)]
+pub struct Request<'a> {
+    pub access: Access,
+    pub name: &'a [u8],
+    pub mode: &'a [u8],
+    // the option pairs
+    pub pairs: &'a [u8],
+}
+
+#[derive(Clone, Copy, PartialEq, Eq, Debug)]
 pub enum Message<'a> {
-    // RRQ or WRQ
-    Request {
-        access: Access,
-        name: &'a [u8],
-        mode: &'a [u8],
-        pairs: &'a [u8],
-    },
-    Data {
-        block: u16,
-        bytes: &'a [u8],
-    },
-    Ack {
-        block: u16,
-    },
-    Error {
-        code: u16,
-        message: &'a [u8],
-    },
-    Oack {
-        pairs: &'a [u8],
-    },
+    Request(Request<'a>),
+    Data { block: u16, bytes: &'a [u8] },
+    Ack { block: u16 },
+    Error { code: u16, message: &'a [u8] },
+    Oack { pairs: &'a [u8] },
 }
 
 impl<'a> Message<'a> {

@@ -4,7 +4,7 @@ ghost use Rattle.grammar.specs.Modes.{mode_word, Moded};
 
 use terms::refusal::Refusal;
 
-#[derive(Clone, Copy)]
+#[derive(Clone, Copy, PartialEq, Eq, Debug)]
 pub enum Mode {
     // byte for byte
     Octet,

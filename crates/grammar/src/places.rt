@@ -6,7 +6,7 @@ ghost use Rattle.grammar.specs.Parts.{placed};
 use crate::message::Message;
 
 // The place of each part, in bytes from the front.
-#[derive(Clone, Copy)]
+#[derive(Clone, Copy, PartialEq, Eq, Debug)]
 pub enum Places {
     Request {
         name: usize,
@@ -31,10 +31,10 @@ impl<'a> Message<'a> {
         ensures { result ≡ placed (meaning self.entry) }
     {
         match self {
-            Message::Request { name, mode, .. } => Places::Request {
+            Message::Request(request) => Places::Request {
                 name: 2,
-                mode: 3 + name.len(),
-                pairs: (4 + name.len()).saturating_add(mode.len()),
+                mode: 3 + request.name.len(),
+                pairs: (4 + request.name.len()).saturating_add(request.mode.len()),
             },
             Message::Data { .. } => Places::Data { bytes: 4 },
             Message::Ack { .. } => Places::Ack,

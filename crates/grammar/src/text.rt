@@ -12,17 +12,13 @@ ghost use Rattle.grammar.specs.Meaning.{Cut};
 pub fn cut(bytes: &[u8]) -> Option<(&[u8], &[u8])>
     ensures { MatchOption result (Text bytes.now) (λ p. Cut p.0.now p.1.now bytes.now) }
 {
-    for (i, b) in bytes.iter().enumerate() {
-        if *b == 0 {
-            return Some((&bytes[0..i], &bytes[i + 1..]));
-        }
-    }
-    None
+    let end = bytes.iter().position(|b| *b == 0)?;
+    Some((&bytes[..end], &bytes[end + 1..]))
 }
 
 // Whether no byte is zero.
 pub fn is_text(bytes: &[u8]) -> bool
     ensures { Decides result (Text bytes.now) }
 {
-    cut(bytes).is_none()
+    !bytes.contains(&0)
 }

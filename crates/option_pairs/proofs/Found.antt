@@ -4,9 +4,9 @@ use Rattle.std.specs.Char.{to_ascii_lowercase}
 use Rattle.std.proofs.lemmas.Slice.Eq.{bytes_eq-Decides}
 use Rattle.std.proofs.lemmas.Bool.{or_left, or_right, or_parts, both_ways}
 use Rattle.grammar.specs.Grammar.{Pair}
-use Rattle.option_pairs.specs.declared.values.Options.{Options}
+use Rattle.option_pairs.specs.PerOption.{Options}
 use Rattle.option_pairs.specs.declared.values.Range.{Range}
-use Rattle.option_pairs.specs.declared.values.Ranges.{Ranges}
+use Rattle.option_pairs.specs.PerOption.{Ranges}
 use Rattle.option_pairs.specs.Pairs.{twice, has_name}
 use Rattle.option_pairs.specs.Scan.{Wants, Held, Finds}
 

@@ -4,7 +4,7 @@ use Rattle.std.proofs.lemmas.List.{places, take-append-drop, drop-drop, drop_mor
 use Rattle.std.proofs.lemmas.Bool.{or_left}
 use Rattle.grammar.specs.Grammar.{Text, Pair}
 use Rattle.grammar.specs.Meaning.{Cut}
-use Rattle.option_pairs.specs.declared.values.Ranges.{Ranges}
+use Rattle.option_pairs.specs.PerOption.{Ranges}
 use Rattle.option_pairs.specs.declared.scan.Scan.{Scan}
 use Rattle.option_pairs.specs.Pairs.{Are, twice, has_name}
 use Rattle.option_pairs.specs.Scan.{Scanned, Notes}

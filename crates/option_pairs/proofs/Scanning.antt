@@ -4,7 +4,7 @@ use Rattle.std.specs.List.{AllByRecursion}
 use Rattle.std.proofs.lemmas.Bool.{false≢true}
 use Rattle.grammar.specs.Grammar.{Pair}
 use Rattle.option_pairs.specs.declared.values.Range.{Range}
-use Rattle.option_pairs.specs.declared.values.Ranges.{Ranges}
+use Rattle.option_pairs.specs.PerOption.{Ranges}
 use Rattle.option_pairs.specs.declared.scan.Scan.{Scan}
 use Rattle.option_pairs.specs.Number.{numeral_value}
 use Rattle.option_pairs.specs.Pairs.{twice}

@@ -1,3 +1,4 @@
+pub mod PerOption
 pub mod Number
 pub mod Pairs
 pub mod Splits

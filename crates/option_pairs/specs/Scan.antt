@@ -5,9 +5,9 @@ use Rattle.std.specs.List.{AllByRecursion}
 use Rattle.terms.specs.declared.refusal.Refusal.{Refusal}
 use Rattle.terms.specs.declared.refusal.Refusal.TheVariants.{Malformed, RepeatedOption}
 use Rattle.grammar.specs.Grammar.{Pair, Paired}
-use Rattle.option_pairs.specs.declared.values.Options.{Options}
+use Rattle.option_pairs.specs.PerOption.{Options}
 use Rattle.option_pairs.specs.declared.values.Range.{Range}
-use Rattle.option_pairs.specs.declared.values.Ranges.{Ranges}
+use Rattle.option_pairs.specs.PerOption.{Ranges}
 use Rattle.option_pairs.specs.declared.scan.Scan.{Scan}
 use Rattle.option_pairs.specs.Number.{Numeral, numeral_value}
 use Rattle.option_pairs.specs.Pairs.{Are, twice}

@@ -1,8 +1,8 @@
 -- The ranges of the options in a request and in an OACK. Assumes nothing.
 use Rattle.std.specs.Prelude.{ℕ, Some, None, Option}
-use Rattle.option_pairs.specs.declared.values.Options.{Options}
+use Rattle.option_pairs.specs.PerOption.{Options}
 use Rattle.option_pairs.specs.declared.values.Range.{Range}
-use Rattle.option_pairs.specs.declared.values.Ranges.{Ranges}
+use Rattle.option_pairs.specs.PerOption.{Ranges}
 
 abbrev pub range : ℕ → ℕ → Range
 range low high = record { low = low; high = high }

@@ -18,15 +18,11 @@ pub struct Split<'a> {
 pub fn first(pairs: &[u8]) -> Option<Split<'_>>
     ensures { Splits pairs.now result }
 {
-    let Some((name, after)) = cut(pairs) else {
-        return None;
-    };
+    let (name, after) = cut(pairs)?;
     let [_, ..] = name else {
         return None;
     };
-    let Some((value, rest)) = cut(after) else {
-        return None;
-    };
+    let (value, rest) = cut(after)?;
     Some(Split { name, value, rest })
 }
 

@@ -1,5 +1,5 @@
 // The option pairs of a request or an OACK, gone through byte by byte.
-ghost use Rattle.std.specs.Prelude.{◌≡◌, ◌&&◌, ◌||◌, List, is_some, MatchOption};
+ghost use Rattle.std.specs.Prelude.{◌≡◌, List, MatchOption};
 ghost use Rattle.grammar.specs.Grammar.{Pair};
 ghost use Rattle.option_pairs.specs.Number.{numeral_value};
 ghost use Rattle.option_pairs.specs.Pairs.{Are};
@@ -12,7 +12,7 @@ use grammar::pairs::is_paired;
 use terms::refusal::Refusal;
 
 // What pairs give: each option's value, and whether every pair is an option with a value in its range.
-#[derive(Clone, Copy)]
+#[derive(Clone, Copy, PartialEq, Eq, Debug)]
 pub struct Scan {
     pub found: Options,
     pub all_valid: bool,
@@ -22,22 +22,7 @@ pub struct Scan {
 fn valid(word: &[u8], range: Range, name: &[u8], value: &[u8]) -> Option<u32>
     ensures { MatchOption result (Fits word.now range (record { name = name.now; value = value.now }) → ⊥) (λ n. Fits word.now range (record { name = name.now; value = value.now }) × (n ≡ numeral_value value.now)) }
 {
-    match number(value) {
-        Some(n) if name.eq_ignore_ascii_case(word) && range.low <= n && n <= range.high => Some(n),
-        _ => None,
-    }
-}
-
-fn any_some(a: Option<u32>, b: Option<u32>, c: Option<u32>) -> bool
-    ensures { result ≡ (is_some a || (is_some b || is_some c)) }
-{
-    a.is_some() || b.is_some() || c.is_some()
-}
-
-fn both(a: bool, b: bool) -> bool
-    ensures { result ≡ (a && b) }
-{
-    a && b
+    number(value).filter(|n| name.eq_ignore_ascii_case(word) && range.contains(*n))
 }
 
 impl Scan {
@@ -48,14 +33,14 @@ impl Scan {
         let blksize = valid(b"blksize", ranges.blksize, name, value);
         let timeout = valid(b"timeout", ranges.timeout, name, value);
         let windowsize = valid(b"windowsize", ranges.windowsize, name, value);
-        let known = any_some(blksize, timeout, windowsize);
+        let known = blksize.is_some() || timeout.is_some() || windowsize.is_some();
         Scan {
             found: Options {
                 blksize: blksize.or(self.found.blksize),
                 timeout: timeout.or(self.found.timeout),
                 windowsize: windowsize.or(self.found.windowsize),
             },
-            all_valid: both(self.all_valid, known),
+            all_valid: self.all_valid && known,
         }
     }
 }
@@ -99,8 +84,5 @@ pub fn scan_options(bytes: &[u8], ranges: Ranges) -> Result<Scan, Refusal>
     if !is_paired(bytes) {
         return Err(Refusal::Malformed);
     }
-    match scan_pairs(bytes, ranges) {
-        Some(scan) => Ok(scan),
-        None => Err(Refusal::RepeatedOption),
-    }
+    scan_pairs(bytes, ranges).ok_or(Refusal::RepeatedOption)
 }

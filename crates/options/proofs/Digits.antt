@@ -1,15 +1,11 @@
 -- The digits of a number: how many there are, and the number that they are read as.
-use Rattle.std.proofs.Common.{◌≡◌, ℕ, ◌+◌, ◌/◌, ◌<◌, ◌≤◌, length, get_or, decimal, ap, ◌∙◌, ⊎_elim, arith, rules}
+use Rattle.std.proofs.Common.{◌≡◌, ℕ, ◌<◌, ◌≤◌, length, get_or, decimal, ap, ⊎_elim, arith, rules}
 use Rattle.std.specs.Int.{IsInRange}
-use Rattle.std.proofs.lemmas.Fmt.{decimal_step, decimal_digit, decimal_nonempty, first_decimal, length-decimal-le, digits_decimal, digits_value-decimal}
-use Rattle.std.proofs.lemmas.List.{length_push}
+use Rattle.std.proofs.lemmas.Fmt.{decimal_digit, decimal_nonempty, first_decimal, length-decimal-le, digits_decimal, digits_value-decimal}
 use Rattle.std.proofs.lemmas.Str.Parse.{IsNumeralModel, numerals_by_fold, tells_by_index}
 use Rattle.std.proofs.lemmas.Bool.{cases_lt}
 use Rattle.grammar.specs.Grammar.{Text}
 use Rattle.option_pairs.specs.Number.{Numeral, numeral_value, read_on}
-
-pub one_more : (n : ℕ) → 10 ≤ n → n < 4294967296 → length (decimal n) ≡ length (decimal (n / 10)) + 1
-one_more n h l = ap length (decimal_step n h (omega arith)) ∙ length_push (decimal (n / 10)) _
 
 pub ten_at_most : (n : ℕ) → n < 4294967296 → length (decimal n) ≤ 10
 ten_at_most n l = length-decimal-le 10 n (omega arith) (omega arith) (omega arith)

@@ -2,10 +2,6 @@
 use Rattle.std.proofs.Common.{◌≡◌, ℕ, List, [], ◌∷◌, ◌++◌, refl, ap, ◌∙◌, append_assoc}
 use Rattle.grammar.specs.Grammar.{Pair, pairs}
 
--- a name, a zero, a value and a zero, one after the other
-pub four : (t w d a b c e : List ℕ) → a ≡ t ++ w → b ≡ a ++ 0 ∷ [] → c ≡ b ++ d → e ≡ c ++ 0 ∷ [] → e ≡ t ++ (w ++ 0 ∷ (d ++ 0 ∷ []))
-four t w d a b c e p q r s = s ∙ rw (r, q, p) (simp append_assoc)
-
 pub pairs-append : (ps qs : List Pair) → pairs (ps ++ qs) ≡ pairs ps ++ pairs qs
 pairs-append [] qs = refl
 pairs-append (p ∷ ps) qs =

@@ -9,7 +9,7 @@ use Rattle.terms.specs.Patiences.{legal_patience}
 use Rattle.terms.specs.Sizes.{legal_sizes}
 use Rattle.grammar.specs.Grammar.{pairs}
 use Rattle.options.specs.declared.offer.Offer.{Offer}
-use Rattle.option_pairs.specs.declared.values.Options.{Options}
+use Rattle.option_pairs.specs.PerOption.{Options}
 use Rattle.options.specs.Agreement.{given, may_ask, asked_options, cut_to, kept_if_legal, answered, Settled, may_settle, Offers, Accepts, Accepting}
 use Rattle.options.specs.Exchange.{Hears}
 use Rattle.options.specs.Listing.{listed}

@@ -3,9 +3,9 @@ use Rattle.std.proofs.Common.{◌≡◌, ℕ, ◌<◌, ◌≤◌, false, List, [
 use Rattle.std.specs.Char.{to_ascii_lowercase}
 use Rattle.std.specs.List.{AllByRecursion}
 use Rattle.grammar.specs.Grammar.{Text, Pair, Good}
-use Rattle.option_pairs.specs.declared.values.Options.{Options}
+use Rattle.option_pairs.specs.PerOption.{Options}
 use Rattle.option_pairs.specs.declared.values.Range.{Range}
-use Rattle.option_pairs.specs.declared.values.Ranges.{Ranges}
+use Rattle.option_pairs.specs.PerOption.{Ranges}
 use Rattle.options.specs.Listing.{entry, listed}
 use Rattle.option_pairs.specs.Pairs.{twice}
 use Rattle.option_pairs.specs.Scan.{Fits, Fitting, Wants, Held, Finds}

@@ -10,7 +10,7 @@ use Rattle.terms.specs.Patiences.{legal_patience}
 use Rattle.terms.specs.Sizes.{legal_sizes}
 use Rattle.grammar.specs.Grammar.{Pair, Paired}
 use Rattle.options.specs.declared.offer.Offer.{Offer}
-use Rattle.option_pairs.specs.declared.values.Options.{Options}
+use Rattle.option_pairs.specs.PerOption.{Options}
 use Rattle.option_pairs.specs.Pairs.{Are, twice}
 use Rattle.option_pairs.specs.Scan.{Finds, Fitting, Refuses}
 use Rattle.option_pairs.specs.Values.{request_ranges, answer_ranges}

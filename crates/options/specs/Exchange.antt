@@ -7,7 +7,7 @@ use Rattle.terms.specs.declared.refusal.Refusal.TheVariants.{OutOfRange}
 use Rattle.terms.specs.Patiences.{legal_patience}
 use Rattle.grammar.specs.Grammar.{pairs}
 use Rattle.options.specs.declared.exchange.Exchange.{Exchange}
-use Rattle.option_pairs.specs.declared.values.Options.{Options}
+use Rattle.option_pairs.specs.PerOption.{Options}
 use Rattle.options.specs.Agreement.{may_ask, asked_options, answered, Settled, Accepting}
 use Rattle.options.specs.Listing.{listed, no_options}
 

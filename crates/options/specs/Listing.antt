@@ -1,12 +1,13 @@
 -- The option pairs that an end sends. Assumes nothing.
-use Rattle.std.specs.Prelude.{ℕ, List, [], ◌∷◌, ◌++◌, take, Some, None, codes, decimal, Option}
+use Rattle.std.specs.Prelude.{ℕ, List, [], ◌∷◌, ◌++◌, Some, None, codes, decimal, Option}
 use Rattle.grammar.specs.Grammar.{Pair}
-use Rattle.options.specs.declared.encode.PairBytes.{PairBytes}
-use Rattle.option_pairs.specs.declared.values.Options.{Options}
+use Rattle.terms.specs.declared.short_bytes.ShortBytes.{ShortBytes}
+use Rattle.terms.specs.Short.{held}
+use Rattle.option_pairs.specs.PerOption.{Options}
 
 -- the bytes of encoded pairs
-abbrev pub pair_text : PairBytes → List ℕ
-pair_text b = take b.len b.bytes
+abbrev pub pair_text : ShortBytes 64 → List ℕ
+pair_text b = held b
 
 -- an option's pair, with its number in digits
 abbrev pub entry : List ℕ → Option ℕ → List Pair

@@ -13,20 +13,13 @@ use terms::refusal::Refusal;
 pub fn accept_pairs(asked: Options, own: Patience, pairs: &[u8]) -> Result<Agreed, Refusal>
     ensures { Accepting asked own pairs.now result }
 {
-    let scan = match scan_options(pairs, Ranges::of_answer(asked)) {
-        Ok(scan) => scan,
-        Err(Refusal::Malformed) => {
-            return Err(Refusal::Malformed);
-        }
-        Err(_) => {
-            return Err(Refusal::OptionsNotAccepted);
-        }
-    };
+    let scan = scan_options(pairs, Ranges::of_answer(asked)).map_err(|why| match why {
+        Refusal::Malformed => why,
+        _ => Refusal::OptionsNotAccepted,
+    })?;
     if !scan.all_valid {
         return Err(Refusal::OptionsNotAccepted);
     }
-    match settle(scan.found, own) {
-        Ok(agreed) => Ok(agreed),
-        Err(_) => Err(Refusal::OptionsNotAccepted),
-    }
+    let agreed = settle(scan.found, own).map_err(|_| Refusal::OptionsNotAccepted)?;
+    Ok(agreed)
 }

@@ -6,7 +6,7 @@ ghost use Rattle.options.specs.Listing.{listed};
 ghost use Rattle.options.specs.Exchange.{Hears, Exchanges};
 
 use crate::accept::accept_pairs;
-use crate::asked::ask_options;
+use crate::asked::{Ask, ask_options};
 use crate::encode::{encode_oack, encode_options};
 use crate::offer::{Offer, answer_pairs};
 use option_pairs::values::Options;
@@ -40,16 +40,10 @@ fn hear_answer(asked: Options, own: Patience, answer: Options) -> Result<Agreed,
 }
 
 // The shield writes its options, the cabin reads them and writes its answer, the shield reads that.
-pub fn exchange_options(
-    blksize: u32,
-    timeout: u32,
-    windowsize: u32,
-    shield: Patience,
-    cabin: Patience,
-) -> Result<Exchange, Refusal>
-    ensures { Exchanges shield cabin blksize timeout windowsize result }
+pub fn exchange_options(ask: Ask, shield: Patience, cabin: Patience) -> Result<Exchange, Refusal>
+    ensures { Exchanges shield cabin ask.blksize ask.timeout ask.windowsize result }
 {
-    let asked = ask_options(blksize, timeout, windowsize, shield)?;
+    let asked = ask_options(ask, shield)?;
     let offer = hear_request(asked, cabin)?;
     let held = hear_answer(asked, shield, offer.answer)?;
     Ok(Exchange {

@@ -19,23 +19,13 @@ pub struct Offer {
 fn cut_to(most: u32, wanted: Option<u32>) -> Option<u32>
     ensures { result ≡ cut_to most wanted }
 {
-    match wanted {
-        Some(n) => Some(n.min(most)),
-        None => None,
-    }
+    wanted.map(|n| n.min(most))
 }
 
 fn kept_if_legal(wanted: Option<u32>, tries: u8) -> Option<u32>
     ensures { result ≡ kept_if_legal tries wanted }
 {
-    match wanted {
-        Some(wait) => if is_legal_patience(wait, tries as u32) {
-            Some(wait)
-        } else {
-            None
-        },
-        None => None,
-    }
+    wanted.filter(|wait| is_legal_patience(*wait, tries as u32))
 }
 
 // Block size cut to 1,468 and window to 16; the timeout alike if it is legal with the end's own tries, else passed over.

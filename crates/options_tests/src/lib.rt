@@ -3,10 +3,10 @@
 
 use option_pairs::number::number;
 use option_pairs::scan::scan_options;
-use option_pairs::values::{Options, Ranges};
+use option_pairs::values::Ranges;
 use options::accept::accept_pairs;
-use options::asked::ask_options;
-use options::encode::{encode_oack, encode_options};
+use options::asked::{Ask, ask_options};
+use options::encode::{PairBytes, encode_oack, encode_options};
 use options::exchange::exchange_options;
 use options::offer::answer_pairs;
 use std::test::Fail;
@@ -14,11 +14,11 @@ use terms::name::Name;
 use terms::patience::Patience;
 use terms::refusal::Refusal;
 
-// The number of a refusal, 0 where there is none.
-fn refusal_number(why: Option<Refusal>) -> u8 {
-    match why {
-        Some(why) => why.number(),
-        None => 0,
+fn operands(blksize: u32, timeout: u32, windowsize: u32) -> Ask {
+    Ask {
+        blksize,
+        timeout,
+        windowsize,
     }
 }
 
@@ -49,93 +49,87 @@ fn numbers(rt: HostRuntime) {
 // Names of 0, 1, 32 and 33 bytes, and with bytes at the bounds.
 #[test]
 fn names(rt: HostRuntime) {
+    let refused = Some(Refusal::IllegalName);
     let long = [b'n'; 33];
-    let table: [(&[u8], u8); 8] = [
-        (b"", 3),
-        (b"n", 0),
-        (&long[0..32], 0),
-        (&long, 3),
-        (b"a b", 3),
-        (b"a\x7f", 3),
-        (b"!~", 0),
-        (b"a\0", 3),
+    let table: [(&[u8], Option<Refusal>); 8] = [
+        (b"", refused),
+        (b"n", None),
+        (&long[0..32], None),
+        (&long, refused),
+        (b"a b", refused),
+        (b"a\x7f", refused),
+        (b"!~", None),
+        (b"a\0", refused),
     ];
     for (text, expected) in table {
-        let why = match Name::new(text) {
-            Ok(name) => {
-                assert!(rt; name.text() == text);
-                None
-            }
-            Err(why) => Some(why),
-        };
-        assert!(rt; refusal_number(why) == expected);
+        let name = Name::new(text);
+        assert!(rt; name.err() == expected);
+        if let Ok(name) = name {
+            assert!(rt; name.text() == text);
+        }
     }
 }
 
 // Wait, tries, and the refusal.
 #[test]
 fn patience(rt: HostRuntime) {
-    let table: [(u32, u32, u8); 11] = [
-        (218, 6, 0),
-        (219, 6, 6),
-        (0, 5, 6),
-        (1, 0, 0),
-        (255, 5, 0),
-        (255, 6, 6),
-        (256, 0, 6),
-        (95, 15, 0),
-        (96, 15, 6),
-        (1, 16, 6),
-        (4_294_967_295, 4_294_967_295, 6),
+    let refused = Some(Refusal::OutOfRange);
+    let table: [(u32, u32, Option<Refusal>); 11] = [
+        (218, 6, None),
+        (219, 6, refused),
+        (0, 5, refused),
+        (1, 0, None),
+        (255, 5, None),
+        (255, 6, refused),
+        (256, 0, refused),
+        (95, 15, None),
+        (96, 15, refused),
+        (1, 16, refused),
+        (4_294_967_295, 4_294_967_295, refused),
     ];
     for (wait, tries, expected) in table {
-        let why = match Patience::new(wait, tries) {
-            Ok(patience) => {
-                assert!(rt; patience.wait as u32 == wait && patience.tries as u32 == tries);
-                None
-            }
-            Err(why) => Some(why),
-        };
-        assert!(rt; refusal_number(why) == expected);
+        let patience = Patience::new(wait, tries);
+        assert!(rt; patience.err() == expected);
+        if let Ok(patience) = patience {
+            assert!(rt; patience.wait as u32 == wait && patience.tries as u32 == tries);
+        }
     }
 }
 
-// Option pairs of a request with the OACK that a cabin of standard patience answers, and the refusal.
+// Option pairs of a request with the OACK that a cabin of standard patience answers, empty where there is none, or the refusal.
 #[test]
 fn answers(rt: HostRuntime) {
-    let table: [(&[u8], &[u8], u8); 17] = [
-        (b"", b"", 0),
-        (b"blksize\x007\0", b"", 0),
-        (b"blksize\x008\0", b"blksize\x008\0", 0),
-        (b"blksize\x001468\0", b"blksize\x001468\0", 0),
-        (b"blksize\x0065464\0", b"blksize\x001468\0", 0),
-        (b"blksize\x0065465\0", b"", 0),
-        (b"timeout\x000\0", b"", 0),
-        (b"timeout\x00255\0", b"timeout\x00255\0", 0),
-        (b"timeout\x00256\0", b"", 0),
-        (b"windowsize\x000\0", b"", 0),
-        (b"windowsize\x0065535\0", b"windowsize\x0016\0", 0),
-        (b"windowsize\x0065536\0", b"", 0),
+    let table: [(&[u8], Result<&[u8], Refusal>); 17] = [
+        (b"", Ok(b"")),
+        (b"blksize\x007\0", Ok(b"")),
+        (b"blksize\x008\0", Ok(b"blksize\x008\0")),
+        (b"blksize\x001468\0", Ok(b"blksize\x001468\0")),
+        (b"blksize\x0065464\0", Ok(b"blksize\x001468\0")),
+        (b"blksize\x0065465\0", Ok(b"")),
+        (b"timeout\x000\0", Ok(b"")),
+        (b"timeout\x00255\0", Ok(b"timeout\x00255\0")),
+        (b"timeout\x00256\0", Ok(b"")),
+        (b"windowsize\x000\0", Ok(b"")),
+        (b"windowsize\x0065535\0", Ok(b"windowsize\x0016\0")),
+        (b"windowsize\x0065536\0", Ok(b"")),
         (
             b"WindowSize\x003\0TIMEOUT\x004\0blkSIZE\x00512\0",
-            b"blksize\x00512\0timeout\x004\0windowsize\x003\0",
-            0,
+            Ok(b"blksize\x00512\0timeout\x004\0windowsize\x003\0"),
         ),
-        (b"tsize\x000\0blksize\x000512\0", b"", 0),
-        (b"house\x001\0x\x002\0House\x003\0", b"", 5),
-        (b"blksize\x00512\0\0", b"", 2),
-        (b"blksize\x00512", b"", 2),
+        (b"tsize\x000\0blksize\x000512\0", Ok(b"")),
+        (
+            b"house\x001\0x\x002\0House\x003\0",
+            Err(Refusal::RepeatedOption),
+        ),
+        (b"blksize\x00512\0\0", Err(Refusal::Malformed)),
+        (b"blksize\x00512", Err(Refusal::Malformed)),
     ];
-    for (pairs, expected, number) in table {
-        match answer_pairs(pairs, Patience::standard()) {
-            Ok(offer) => {
-                assert!(rt; number == 0);
-                match encode_oack(offer.answer) {
-                    Some(oack) => assert!(rt; oack.as_slice() == expected),
-                    None => assert!(rt; expected.is_empty()),
-                }
-            }
-            Err(why) => assert!(rt; why.number() == number),
+    for (pairs, expected) in table {
+        let offer = answer_pairs(pairs, Patience::standard());
+        assert!(rt; offer.err() == expected.err());
+        if let Ok(offer) = offer {
+            let oack = encode_oack(offer.answer).unwrap_or(PairBytes::empty());
+            assert!(rt; expected == Ok(oack.as_slice()));
         }
     }
 }
@@ -153,30 +147,27 @@ fn timeout_by_tries(rt: HostRuntime) -> Result<(), Fail> {
 #[test]
 fn acceptance(rt: HostRuntime) -> Result<(), Fail> {
     let own = Patience::standard();
-    let asked = ask_options(1024, 9, 8, own)?;
-    let table: [(&[u8], u8); 15] = [
-        (b"", 0),
-        (b"blksize\x001024\0", 0),
-        (b"blksize\x008\0", 0),
-        (b"blksize\x007\0", 8),
-        (b"blksize\x001025\0", 8),
-        (b"BLKSIZE\x001024\0timeout\x009\0windowsize\x001\0", 0),
-        (b"windowsize\x008\0blksize\x00512\0", 0),
-        (b"windowsize\x009\0", 8),
-        (b"windowsize\x000\0", 8),
-        (b"timeout\x008\0", 8),
-        (b"timeout\x0010\0", 8),
-        (b"tsize\x001\0", 8),
-        (b"blksize\x00512\0BlkSize\x00512\0", 8),
-        (b"blksize\x00 512\0", 8),
-        (b"blksize", 2),
+    let asked = ask_options(operands(1024, 9, 8), own)?;
+    let refused = Some(Refusal::OptionsNotAccepted);
+    let table: [(&[u8], Option<Refusal>); 15] = [
+        (b"", None),
+        (b"blksize\x001024\0", None),
+        (b"blksize\x008\0", None),
+        (b"blksize\x007\0", refused),
+        (b"blksize\x001025\0", refused),
+        (b"BLKSIZE\x001024\0timeout\x009\0windowsize\x001\0", None),
+        (b"windowsize\x008\0blksize\x00512\0", None),
+        (b"windowsize\x009\0", refused),
+        (b"windowsize\x000\0", refused),
+        (b"timeout\x008\0", refused),
+        (b"timeout\x0010\0", refused),
+        (b"tsize\x001\0", refused),
+        (b"blksize\x00512\0BlkSize\x00512\0", refused),
+        (b"blksize\x00 512\0", refused),
+        (b"blksize", Some(Refusal::Malformed)),
     ];
     for (pairs, expected) in table {
-        let why = match accept_pairs(asked, own, pairs) {
-            Ok(_) => None,
-            Err(why) => Some(why),
-        };
-        assert!(rt; refusal_number(why) == expected);
+        assert!(rt; accept_pairs(asked, own, pairs).err() == expected);
     }
     Ok(())
 }
@@ -185,36 +176,31 @@ fn acceptance(rt: HostRuntime) -> Result<(), Fail> {
 #[test]
 fn asks(rt: HostRuntime) -> Result<(), Fail> {
     let own = Patience::new(10, 6)?;
-    let table: [(u32, u32, u32, u8); 12] = [
-        (0, 0, 0, 0),
-        (8, 1, 1, 0),
-        (1468, 218, 16, 0),
-        (7, 0, 0, 6),
-        (1469, 0, 0, 6),
-        (0, 219, 0, 6),
-        (0, 256, 0, 6),
-        (0, 0, 17, 6),
-        (512, 5, 4, 0),
-        (4_294_967_295, 0, 0, 6),
-        (0, 4_294_967_295, 0, 6),
-        (0, 0, 4_294_967_295, 6),
+    let refused = Some(Refusal::OutOfRange);
+    let table: [(u32, u32, u32, Option<Refusal>); 12] = [
+        (0, 0, 0, None),
+        (8, 1, 1, None),
+        (1468, 218, 16, None),
+        (7, 0, 0, refused),
+        (1469, 0, 0, refused),
+        (0, 219, 0, refused),
+        (0, 256, 0, refused),
+        (0, 0, 17, refused),
+        (512, 5, 4, None),
+        (4_294_967_295, 0, 0, refused),
+        (0, 4_294_967_295, 0, refused),
+        (0, 0, 4_294_967_295, refused),
     ];
     for (blksize, timeout, windowsize, expected) in table {
-        match ask_options(blksize, timeout, windowsize, own) {
-            Ok(asked) => {
-                assert!(rt; expected == 0);
-                let bytes = encode_options(asked);
-                let scan = scan_options(bytes.as_slice(), Ranges::of_request())?;
-                assert!(rt; same(scan.found, asked) && scan.all_valid);
-            }
-            Err(why) => assert!(rt; why.number() == expected),
+        let asked = ask_options(operands(blksize, timeout, windowsize), own);
+        assert!(rt; asked.err() == expected);
+        if let Ok(asked) = asked {
+            let bytes = encode_options(asked);
+            let scan = scan_options(bytes.as_slice(), Ranges::of_request())?;
+            assert!(rt; scan.found == asked && scan.all_valid);
         }
     }
     Ok(())
-}
-
-fn same(a: Options, b: Options) -> bool {
-    a.blksize == b.blksize && a.timeout == b.timeout && a.windowsize == b.windowsize
 }
 
 // After the exchange both ends hold the same; a timeout that the cabin passes over leaves each its own wait.
@@ -222,11 +208,11 @@ fn same(a: Options, b: Options) -> bool {
 fn exchanges(rt: HostRuntime) -> Result<(), Fail> {
     let shield = Patience::new(20, 0)?;
     let cabin = Patience::new(7, 15)?;
-    let both = exchange_options(1024, 60, 4, shield, cabin)?;
+    let both = exchange_options(operands(1024, 60, 4), shield, cabin)?;
     assert!(rt; both.shield.block_size == 1024 && both.cabin.block_size == 1024);
     assert!(rt; both.shield.window == 4 && both.cabin.window == 4);
     assert!(rt; both.shield.patience.wait == 60 && both.cabin.patience.wait == 60);
-    let apart = exchange_options(0, 200, 0, shield, cabin)?;
+    let apart = exchange_options(operands(0, 200, 0), shield, cabin)?;
     assert!(rt; apart.shield.block_size == 512 && apart.cabin.window == 1);
     assert!(rt; apart.shield.patience.wait == 20 && apart.cabin.patience.wait == 7);
     Ok(())

@@ -1,9 +1,8 @@
 // What the two ends hold after an exchange of options.
-use crate::example::Ask;
 use crate::judged::{Refused, compare};
 use grammar::message::Message;
 use options::accept::accept_pairs;
-use options::asked::ask_options;
+use options::asked::{Ask, ask_options};
 use options::exchange::{Exchange, exchange_options};
 use std::{fmt, io};
 use terms::agreed::Agreed;
@@ -49,7 +48,7 @@ fn judge_held(
 // What a shield of standard patience makes of the OACK to its ask.
 fn hear_oack(ask: Ask, datagram: &[u8]) -> Result<Agreed, Refusal> {
     let own = Patience::standard();
-    let asked = ask_options(ask.blksize, ask.timeout, ask.windowsize, own)?;
+    let asked = ask_options(ask, own)?;
     match read(datagram)? {
         Message::Oack { pairs } => accept_pairs(asked, own, pairs),
         _ => Err(Refusal::NotExpected),
@@ -64,7 +63,7 @@ pub fn judge_oack(rt: &HostRuntime, ask: Ask, datagram: &[u8], words: &str) -> i
 // Runs the exchange between ends of standard patience; answers whether both hold what they should.
 pub fn judge_exchange(rt: &HostRuntime, ask: Ask, words: &str) -> io::Result<bool> {
     let own = Patience::standard();
-    match exchange_options(ask.blksize, ask.timeout, ask.windowsize, own, own) {
+    match exchange_options(ask, own, own) {
         Ok(exchange) => {
             let shield_is_right = judge_held(rt, "shield", Ok(exchange.shield), words)?;
             let cabin_is_right = judge_held(rt, "cabin", Ok(exchange.cabin), words)?;

@@ -1,4 +1,5 @@
 // The shapes of the examples, each with what should come of it.
+use options::asked::Ask;
 
 // A datagram.
 #[derive(Clone, Copy)]
@@ -21,14 +22,6 @@ pub struct BlockExample {
     pub len: usize,
     // our reading in one line
     pub words: &'static str,
-}
-
-// The options that the shield asks; 0 is not asked.
-#[derive(Clone, Copy)]
-pub struct Ask {
-    pub blksize: u32,
-    pub timeout: u32,
-    pub windowsize: u32,
 }
 
 // An OACK that answers an ask.

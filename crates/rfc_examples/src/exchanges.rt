@@ -1,5 +1,6 @@
 // Whole exchanges of options, from what the shield asks to what both ends hold.
-use crate::example::{Ask, ExchangeExample};
+use crate::example::ExchangeExample;
+use options::asked::Ask;
 
 pub static EXCHANGES: [ExchangeExample; 11] = [
     ExchangeExample {

@@ -46,16 +46,10 @@ struct Service<'a>(Message<'a>);
 
 impl fmt::Display for Service<'_> {
     fn fmt<W: fmt::Write>(&self, f: &mut fmt::Formatter<W>) -> fmt::Result {
-        let Message::Request {
-            name,
-            mode,
-            pairs,
-            ..
-        } = self.0
-        else {
+        let Message::Request(request) = self.0 else {
             return Ok(());
         };
-        match judge_request(name, mode, pairs, Patience::standard()) {
+        match judge_request(request, Patience::standard()) {
             Ok(offer) => match encode_oack(offer.answer) {
                 Some(oack) => {
                     let words = Summary(Message::Oack {

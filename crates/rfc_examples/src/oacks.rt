@@ -1,5 +1,6 @@
 // OACKs, as the shield that asked takes them.
-use crate::example::{Ask, OackExample};
+use crate::example::OackExample;
+use options::asked::Ask;
 
 pub static OACKS: [OackExample; 14] = [
     OackExample {

@@ -2,6 +2,7 @@ pub mod Refusals
 pub mod Causes
 pub mod Sides
 pub mod Phases
+pub mod Short
 pub mod Names
 pub mod Named
 pub mod Patiences

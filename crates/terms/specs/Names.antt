@@ -1,13 +1,13 @@
 -- Which bytes may be the name of an item. Assumes nothing.
-use Rattle.std.specs.Prelude.{ℕ, Bool, true, ◌&&◌, List, [], ◌∷◌, length, nat_le, nat_lt}
+use Rattle.std.specs.Prelude.{ℕ, Bool, ◌&&◌, List, length, nat_le, nat_lt}
+use Rattle.std.specs.List.{list_all}
 
 -- the byte shows as a character
 abbrev pub visible : ℕ → Bool
 visible b = nat_le 33 b && nat_le b 126
 
 abbrev pub all_visible : List ℕ → Bool
-all_visible [] = true
-all_visible (b ∷ bs) = visible b && all_visible bs
+all_visible bs = list_all visible bs
 
 -- 1 to 32 visible bytes
 abbrev pub legal_name : List ℕ → Bool

@@ -25,17 +25,6 @@ impl Cause {
             Cause::PeerError => 41,
         }
     }
-
-    // The cause of that number; a number that none has is out of range.
-    pub fn from_number(n: u8) -> Result<Cause, Refusal>
-        ensures { CauseNumbered n result }
-    {
-        match n {
-            40 => Ok(Cause::Silence),
-            41 => Ok(Cause::PeerError),
-            _ => Ok(Cause::Refused(Refusal::from_number(n)?)),
-        }
-    }
 }
 
 // A refusal becomes the cause of the same number.
@@ -44,5 +33,20 @@ impl From<Refusal> for Cause {
 
     fn from(why: Refusal) -> Cause {
         Cause::Refused(why)
+    }
+}
+
+// The cause of that number; a number that none has is out of range.
+impl TryFrom<u8> for Cause {
+    type Error = Refusal;
+
+    ghost try_from_gives = { CauseNumbered };
+
+    fn try_from(n: u8) -> Result<Cause, Refusal> {
+        match n {
+            40 => Ok(Cause::Silence),
+            41 => Ok(Cause::PeerError),
+            _ => Ok(Refusal::try_from(n)?.into()),
+        }
     }
 }

@@ -8,4 +8,5 @@ pub mod patience;
 pub mod phase;
 pub mod refusal;
 pub mod role;
+pub mod short_bytes;
 pub mod side;

@@ -1,10 +1,11 @@
 // The phase of a transfer.
-ghost use Rattle.std.specs.Prelude.{◌≡◌};
+ghost use Rattle.std.specs.Prelude.{◌≡◌, Some};
 ghost use Rattle.terms.specs.Phases.{phase_word, ended, blame};
 
 use crate::cause::Cause;
+use std::fmt;
 
-#[derive(Clone, Copy)]
+#[derive(Clone, Copy, PartialEq, Eq, Debug)]
 pub enum Phase {
     // its request is out
     Asked,
@@ -41,10 +42,7 @@ impl Phase {
     pub fn has_ended(self) -> bool
         ensures { result ≡ ended self }
     {
-        match self {
-            Phase::Confirmed | Phase::Filed | Phase::Failed(_) => true,
-            _ => false,
-        }
+        matches!(self, Phase::Confirmed | Phase::Filed | Phase::Failed(_))
     }
 
     // The number of the cause of a failed transfer, 0 for any other.
@@ -55,5 +53,14 @@ impl Phase {
             Phase::Failed(why) => why.number(),
             _ => 0,
         }
+    }
+}
+
+// The word.
+impl fmt::Display for Phase {
+    ghost output = { λ x. Some (phase_word x) };
+
+    fn fmt<W: fmt::Write>(&self, f: &mut fmt::Formatter<W>) -> fmt::Result {
+        f.write_str(self.word())
     }
 }

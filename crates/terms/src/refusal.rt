@@ -63,39 +63,6 @@ impl Refusal {
         self as u8
     }
 
-    // The refusal of that number; a number that none has is out of range.
-    pub fn from_number(n: u8) -> Result<Refusal, Refusal>
-        ensures { Numbered n result }
-    {
-        Ok(match n {
-            1 => Refusal::UnknownOpcode,
-            2 => Refusal::Malformed,
-            3 => Refusal::IllegalName,
-            4 => Refusal::UnsupportedMode,
-            5 => Refusal::RepeatedOption,
-            6 => Refusal::OutOfRange,
-            7 => Refusal::OversizedData,
-            8 => Refusal::OptionsNotAccepted,
-            9 => Refusal::ShortBuffer,
-            20 => Refusal::NothingWaiting,
-            21 => Refusal::NoTransfer,
-            22 => Refusal::WrongPeer,
-            23 => Refusal::NotExpected,
-            24 => Refusal::PlacesFull,
-            25 => Refusal::TidsSpent,
-            26 => Refusal::NoSuchItem,
-            27 => Refusal::NameInUse,
-            28 => Refusal::NoDraftFree,
-            29 => Refusal::NotTaken,
-            30 => Refusal::TooManyBlocks,
-            31 => Refusal::NotEnded,
-            33 => Refusal::ServingEnd,
-            35 => Refusal::SourceBusy,
-            36 => Refusal::DraftState,
-            _ => return Err(Refusal::OutOfRange),
-        })
-    }
-
     // The code of the ERROR that goes to the source of a refused datagram, or none; an ERROR from a stranger gets none.
     pub fn error_code(self, to_error: bool) -> Option<u16>
         ensures { result ≡ error_code self to_error }
@@ -143,10 +110,46 @@ impl Refusal {
     }
 }
 
+// The refusal of that number; a number that none has is out of range.
+impl TryFrom<u8> for Refusal {
+    type Error = Refusal;
+
+    ghost try_from_gives = { Numbered };
+
+    fn try_from(n: u8) -> Result<Refusal, Refusal> {
+        Ok(match n {
+            1 => Refusal::UnknownOpcode,
+            2 => Refusal::Malformed,
+            3 => Refusal::IllegalName,
+            4 => Refusal::UnsupportedMode,
+            5 => Refusal::RepeatedOption,
+            6 => Refusal::OutOfRange,
+            7 => Refusal::OversizedData,
+            8 => Refusal::OptionsNotAccepted,
+            9 => Refusal::ShortBuffer,
+            20 => Refusal::NothingWaiting,
+            21 => Refusal::NoTransfer,
+            22 => Refusal::WrongPeer,
+            23 => Refusal::NotExpected,
+            24 => Refusal::PlacesFull,
+            25 => Refusal::TidsSpent,
+            26 => Refusal::NoSuchItem,
+            27 => Refusal::NameInUse,
+            28 => Refusal::NoDraftFree,
+            29 => Refusal::NotTaken,
+            30 => Refusal::TooManyBlocks,
+            31 => Refusal::NotEnded,
+            33 => Refusal::ServingEnd,
+            35 => Refusal::SourceBusy,
+            36 => Refusal::DraftState,
+            _ => return Err(Refusal::OutOfRange),
+        })
+    }
+}
+
 // In words.
 impl fmt::Display for Refusal {
     fn fmt<W: fmt::Write>(&self, f: &mut fmt::Formatter<W>) -> fmt::Result {
-        let words = self.words();
-        write!(f, "{words}")
+        f.write_str(self.words())
     }
 }

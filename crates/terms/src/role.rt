@@ -1,8 +1,10 @@
 // What a transfer does with the item: it sends it or receives it.
-ghost use Rattle.std.specs.Prelude.{◌≡◌};
+ghost use Rattle.std.specs.Prelude.{◌≡◌, Some};
 ghost use Rattle.terms.specs.Phases.{role_word};
 
-#[derive(Clone, Copy)]
+use std::fmt;
+
+#[derive(Clone, Copy, PartialEq, Eq, Debug)]
 pub enum Role {
     Sender,
     Receiver,
@@ -17,5 +19,14 @@ impl Role {
             Role::Sender => "sender",
             Role::Receiver => "receiver",
         }
+    }
+}
+
+// The word.
+impl fmt::Display for Role {
+    ghost output = { λ x. Some (role_word x) };
+
+    fn fmt<W: fmt::Write>(&self, f: &mut fmt::Formatter<W>) -> fmt::Result {
+        f.write_str(self.word())
     }
 }

@@ -1,8 +1,9 @@
 // The two ends of the line: the shield asks, the cabin serves.
-ghost use Rattle.std.specs.Prelude.{◌≡◌};
+ghost use Rattle.std.specs.Prelude.{◌≡◌, Some};
 ghost use Rattle.terms.specs.Sides.{side_number, side_word, opposite, SideNumbered};
 
 use crate::refusal::Refusal;
+use std::fmt;
 
 #[derive(Clone, Copy, PartialEq, Eq, Debug)]
 pub enum Side {
@@ -15,16 +16,6 @@ impl Side {
         ensures { result ≡ side_number self }
     {
         self as u8
-    }
-
-    pub fn from_number(n: u8) -> Result<Side, Refusal>
-        ensures { SideNumbered n result }
-    {
-        match n {
-            0 => Ok(Side::Shield),
-            1 => Ok(Side::Cabin),
-            _ => Err(Refusal::OutOfRange),
-        }
     }
 
     // The word that scripts and output use.
@@ -45,5 +36,29 @@ impl Side {
             Side::Shield => Side::Cabin,
             Side::Cabin => Side::Shield,
         }
+    }
+}
+
+// The side of that number; a number that neither has is out of range.
+impl TryFrom<u8> for Side {
+    type Error = Refusal;
+
+    ghost try_from_gives = { SideNumbered };
+
+    fn try_from(n: u8) -> Result<Side, Refusal> {
+        match n {
+            0 => Ok(Side::Shield),
+            1 => Ok(Side::Cabin),
+            _ => Err(Refusal::OutOfRange),
+        }
+    }
+}
+
+// The word.
+impl fmt::Display for Side {
+    ghost output = { λ x. Some (side_word x) };
+
+    fn fmt<W: fmt::Write>(&self, f: &mut fmt::Formatter<W>) -> fmt::Result {
+        f.write_str(self.word())
     }
 }

@@ -1,7 +1,8 @@
 -- Datagrams taken apart: a number of two bytes, a message after its opcode.
-use Rattle.std.proofs.Common.{◌≡◌, ℕ, ◌+◌, ◌-◌, ◌*◌, ◌/◌, ◌%◌, ◌<◌, ◌≤◌, List, [], ◌∷◌, ◌++◌, length, get_or, take, drop, Ok, Err, Result, sym, ap, ◌∙◌, inr, arith, rules}
+use Rattle.std.proofs.Common.{◌≡◌, ℕ, ◌+◌, ◌-◌, ◌*◌, ◌/◌, ◌%◌, ◌<◌, ◌≤◌, List, [], ◌∷◌, ◌++◌, length, get_or, take, drop, Ok, Err, Result, sym, refl, ap, ◌∙◌, inr, arith, rules}
 use Rattle.std.proofs.lemmas.List.{take_rest}
 use Rattle.terms.specs.declared.refusal.Refusal.{Refusal}
+use Rattle.terms.specs.declared.refusal.Refusal.TheVariants.{Malformed}
 use Rattle.grammar.specs.declared.message.Message.{Message}
 use Rattle.grammar.specs.Grammar.{wide, Text, Kind, fault, Msg, requestMsg, asked, blockMsg, ackMsg, faultMsg, oackMsg, code, Asks, Paired}
 use Rattle.grammar.specs.declared.message.Access.{Access}
@@ -78,3 +79,7 @@ asks_some m a bs n y p q =
     let f = asks m a bs p in
     let s = one_cut f.0 n _ y bs (record { text = f.3.name; whole = f.4 }) q in
     (f.1, f.2, record { text = f.3.mode; whole = s.1 }, f.3.paired)
+
+-- bytes that are no message of the opcode are refused as malformed
+pub taken_not : (k : Kind) (bs : List ℕ) (r : Result Message Refusal) → r ≡ Err Malformed → ((m : Msg) → Is m k bs → ⊥) → Takes k bs r
+taken_not k bs r e n = rw e (refl, n)

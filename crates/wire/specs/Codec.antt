@@ -1,6 +1,5 @@
 -- What the reader and the writer answer, by the grammar. Assumes nothing.
 use Rattle.std.specs.Prelude.{◌≡◌, ℕ, ◌<◌, ◌≤◌, ◌⊎◌, List, ◌∷◌, ◌++◌, length, drop, Ok, Err, Result, ◌≢◌}
-use Rattle.std.specs.Borrow.{Bor}
 use Rattle.terms.specs.declared.refusal.Refusal.{Refusal}
 use Rattle.terms.specs.declared.refusal.Refusal.TheVariants.{UnknownOpcode, Malformed, ShortBuffer}
 use Rattle.grammar.specs.declared.message.Message.{Message}
@@ -37,10 +36,6 @@ Unread bs e = ((e ≡ UnknownOpcode) × Unopened bs) ⊎ ((e ≡ Malformed) × M
 abbrev pub Reads : List ℕ → Result Message Refusal → Type 0
 Reads bs (Ok m) = Legal (meaning m) × (encoded (meaning m) ≡ bs)
 Reads bs (Err e) = Unread bs e
-
--- what a part holds
-abbrev pub held : Bor (List ℕ) → List ℕ
-held r = r.now
 
 -- m was written into a buffer that held old and then holds new, and ends at n
 pub record Written (m : Msg) (old new : List ℕ) (n : ℕ) : Type 0 where

@@ -5,7 +5,7 @@ ghost use Rattle.wire.specs.Codec.{Reads, Takes};
 ghost use Rattle.wire.specs.Parts.{Parted};
 ghost use Rattle.wire.specs.Laws.{Gives};
 
-use grammar::message::{Access, Message};
+use grammar::message::{Access, Message, Request};
 use grammar::pairs::is_paired;
 use grammar::text::cut;
 use terms::refusal::Refusal;
@@ -22,22 +22,17 @@ fn read_request(access: Access, rest: &[u8]) -> Result<Message<'_>, Refusal>
     if rest.len() > 510 {
         return Err(Refusal::Malformed);
     }
-    let Some((name, after)) = cut(rest) else {
+    let (name, after) = cut(rest).ok_or(Refusal::Malformed)?;
+    let (mode, pairs) = cut(after).ok_or(Refusal::Malformed)?;
+    if !is_paired(pairs) {
         return Err(Refusal::Malformed);
-    };
-    let Some((mode, pairs)) = cut(after) else {
-        return Err(Refusal::Malformed);
-    };
-    if is_paired(pairs) {
-        Ok(Message::Request {
-            access,
-            name,
-            mode,
-            pairs,
-        })
-    } else {
-        Err(Refusal::Malformed)
     }
+    Ok(Message::Request(Request {
+        access,
+        name,
+        mode,
+        pairs,
+    }))
 }
 
 // DATA; `rest` follows the opcode.
@@ -87,9 +82,7 @@ fn read_error(rest: &[u8]) -> Result<Message<'_>, Refusal>
     let [hi, lo, text @ ..] = rest else {
         return Err(Refusal::Malformed);
     };
-    let Some((message, after)) = cut(text) else {
-        return Err(Refusal::Malformed);
-    };
+    let (message, after) = cut(text).ok_or(Refusal::Malformed)?;
     if after.is_empty() && message.len() <= 128 {
         Ok(Message::Error {
             code: u16::from_be_bytes([*hi, *lo]),

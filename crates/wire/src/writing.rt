@@ -1,34 +1,54 @@
 // Writing: the datagram of a message.
-ghost use Rattle.std.specs.Prelude.{◌≡◌, ◌≤◌, [], ◌∷◌, ◌++◌, length, drop, Decides};
-ghost use Rattle.std.specs.List.{flat_map};
+ghost use Rattle.std.specs.Prelude.{◌≡◌, ℕ, ◌+◌, ◌<◌, ◌≤◌, List, [], ◌∷◌, ◌++◌, length, drop, Decides};
 ghost use Rattle.grammar.specs.Grammar.{encoded, kind, code, wide, Asks, Legal};
 ghost use Rattle.grammar.specs.Meaning.{meaning};
-ghost use Rattle.wire.specs.Codec.{Writes, held};
+ghost use Rattle.wire.specs.Codec.{Writes};
 
-use grammar::message::{Access, Message};
+use grammar::message::{Access, Message, Request};
 use grammar::pairs::is_paired;
 use grammar::text::is_text;
 use terms::refusal::Refusal;
 
-// Writes the parts one after the other from the front, and answers where they end.
-fn join(buf: &mut [u8], parts: &[&[u8]]) -> usize
-    requires { length (flat_map held parts.now) ≤ length buf.old }
-    ensures end { result ≡ length (flat_map held parts.now) }
-    ensures whole { buf.new ≡ flat_map held parts.now ++ drop result buf.old }
+// Writes a part at its place, and answers where it ends. What was written before it stays, and so does what lies past it.
+fn put(buf: &mut [u8], at: usize, part: &[u8]) -> usize
+    requires { at + length part.now ≤ length buf.old }
+    ensures end { result ≡ at + length part.now }
+    ensures whole { (front old : List ℕ) → length front ≡ at → buf.old ≡ front ++ drop at old → buf.new ≡ (front ++ part.now) ++ drop result old }
 {
-    let mut at = 0;
-    for part in parts {
-        let end = at + part.len();
-        buf[at..end].copy_from_slice(part);
-        at = end;
-    }
-    at
+    let end = at + part.len();
+    buf[at..end].copy_from_slice(part);
+    end
+}
+
+// Writes a text and the zero byte that ends it.
+fn put_text(buf: &mut [u8], at: usize, text: &[u8]) -> usize
+    requires { at + length text.now < length buf.old }
+    ensures end { result ≡ at + length text.now + 1 }
+    ensures whole { (front old : List ℕ) → length front ≡ at → buf.old ≡ front ++ drop at old → buf.new ≡ (front ++ (text.now ++ 0 ∷ [])) ++ drop result old }
+{
+    let at = put(buf, at, text);
+    put(buf, at, &[0])
+}
+
+// Writes a number's two bytes, high byte first.
+fn put_number(buf: &mut [u8], at: usize, n: u16) -> usize
+    requires { at + 2 ≤ length buf.old }
+    ensures end { result ≡ at + 2 }
+    ensures whole { (front old : List ℕ) → length front ≡ at → buf.old ≡ front ++ drop at old → buf.new ≡ (front ++ wide n []) ++ drop result old }
+{
+    put(buf, at, &n.to_be_bytes())
 }
 
 // Whether the parts are those of a legal request: 512 bytes at most, with the opcode and two zero bytes.
-fn is_request(name: &[u8], mode: &[u8], pairs: &[u8]) -> bool
-    ensures { Decides result (Asks name.now mode.now pairs.now) }
+fn is_request(request: Request<'_>) -> bool
+    ensures { Decides result (Asks request.entry.name.now request.entry.mode.now request.entry.pairs.now) }
 {
+    let Request {
+        name,
+        mode,
+        pairs,
+        ..
+    } = request;
     let texts = name.len() + mode.len();
     texts <= 508 && pairs.len() <= 508 - texts && is_text(name) && is_text(mode) && is_paired(pairs)
 }
@@ -38,12 +58,7 @@ fn is_legal(message: Message<'_>) -> bool
     ensures { Decides result (Legal (meaning message.entry)) }
 {
     match message {
-        Message::Request {
-            name,
-            mode,
-            pairs,
-            ..
-        } => is_request(name, mode, pairs),
+        Message::Request(request) => is_request(request),
         Message::Data { bytes, .. } => bytes.len() <= 1468,
         Message::Ack { .. } => true,
         Message::Error { message, .. } => message.len() <= 128 && is_text(message),
@@ -56,84 +71,15 @@ fn opcode(message: Message<'_>) -> &'static [u8]
     ensures { result.now ≡ 0 ∷ code (kind (meaning message.entry)) ∷ [] }
 {
     match message {
-        Message::Request {
-            access: Access::Read,
-            ..
-        } => &[0, 1],
-        Message::Request {
-            access: Access::Write,
-            ..
-        } => &[0, 2],
+        Message::Request(request) => match request.access {
+            Access::Read => &[0, 1],
+            Access::Write => &[0, 2],
+        },
         Message::Data { .. } => &[0, 3],
         Message::Ack { .. } => &[0, 4],
         Message::Error { .. } => &[0, 5],
         Message::Oack { .. } => &[0, 6],
     }
-}
-
-// Writes RRQ or WRQ.
-//
-//   2 bytes    n bytes   1 byte   m bytes   1 byte
-//  +---------+---------+--------+---------+--------+---------
-//  | 1 or 2  |  name   |   0    |  mode   |   0    |  pairs ..
-//  +---------+---------+--------+---------+--------+---------
-fn write_request<'a>(
-    buf: &mut [u8],
-    opcode: &'a [u8],
-    name: &'a [u8],
-    mode: &'a [u8],
-    pairs: &'a [u8],
-) -> usize
-    requires { length (opcode.now ++ (name.now ++ 0 ∷ (mode.now ++ 0 ∷ pairs.now))) ≤ length buf.old }
-    ensures end { result ≡ length (opcode.now ++ (name.now ++ 0 ∷ (mode.now ++ 0 ∷ pairs.now))) }
-    ensures whole { buf.new ≡ (opcode.now ++ (name.now ++ 0 ∷ (mode.now ++ 0 ∷ pairs.now))) ++ drop result buf.old }
-{
-    join(buf, &[opcode, name, &[0], mode, &[0], pairs])
-}
-
-// Writes four parts one after the other.
-fn write_four<'a>(
-    buf: &mut [u8],
-    opcode: &'a [u8],
-    number: &'a [u8],
-    rest: &'a [u8],
-    end: &'a [u8],
-) -> usize
-    requires { length (opcode.now ++ (number.now ++ (rest.now ++ end.now))) ≤ length buf.old }
-    ensures end { result ≡ length (opcode.now ++ (number.now ++ (rest.now ++ end.now))) }
-    ensures whole { buf.new ≡ (opcode.now ++ (number.now ++ (rest.now ++ end.now))) ++ drop result buf.old }
-{
-    join(buf, &[opcode, number, rest, end])
-}
-
-// Writes DATA, ACK or ERROR: a number after the opcode, then the bytes after it and an end.
-//
-//   2 bytes     2 bytes     n bytes    0 or 1 byte
-//  +---------+----------+-----------+-------------+
-//  |    3    |  block   |   data    |             |
-//  |    4    |  block   |           |             |
-//  |    5    |   code   |  message  |      0      |
-//  +---------+----------+-----------+-------------+
-fn write_numbered(buf: &mut [u8], opcode: &[u8], number: u16, rest: &[u8], end: &[u8]) -> usize
-    requires { length (opcode.now ++ wide number (rest.now ++ end.now)) ≤ length buf.old }
-    ensures end { result ≡ length (opcode.now ++ wide number (rest.now ++ end.now)) }
-    ensures whole { buf.new ≡ (opcode.now ++ wide number (rest.now ++ end.now)) ++ drop result buf.old }
-{
-    write_four(buf, opcode, &number.to_be_bytes(), rest, end)
-}
-
-// Writes OACK.
-//
-//   2 bytes
-//  +---------+---------
-//  |    6    |  pairs ..
-//  +---------+---------
-fn write_oack<'a>(buf: &mut [u8], opcode: &'a [u8], pairs: &'a [u8]) -> usize
-    requires { length (opcode.now ++ pairs.now) ≤ length buf.old }
-    ensures end { result ≡ length (opcode.now ++ pairs.now) }
-    ensures whole { buf.new ≡ (opcode.now ++ pairs.now) ++ drop result buf.old }
-{
-    join(buf, &[opcode, pairs])
 }
 
 // Writes a legal message, and answers where it ends.
@@ -142,18 +88,23 @@ fn encode(message: Message<'_>, buf: &mut [u8]) -> usize
     ensures end { result ≡ length (encoded (meaning message.entry)) }
     ensures whole { buf.new ≡ encoded (meaning message.entry) ++ drop result buf.old }
 {
-    let opcode = opcode(message);
+    let at = put(buf, 0, opcode(message));
     match message {
-        Message::Request {
-            name,
-            mode,
-            pairs,
-            ..
-        } => write_request(buf, opcode, name, mode, pairs),
-        Message::Data { block, bytes } => write_numbered(buf, opcode, block, bytes, &[]),
-        Message::Ack { block } => write_numbered(buf, opcode, block, &[], &[]),
-        Message::Error { code, message } => write_numbered(buf, opcode, code, message, &[0]),
-        Message::Oack { pairs } => write_oack(buf, opcode, pairs),
+        Message::Request(request) => {
+            let at = put_text(buf, at, request.name);
+            let at = put_text(buf, at, request.mode);
+            put(buf, at, request.pairs)
+        }
+        Message::Data { block, bytes } => {
+            let at = put_number(buf, at, block);
+            put(buf, at, bytes)
+        }
+        Message::Ack { block } => put_number(buf, at, block),
+        Message::Error { code, message } => {
+            let at = put_number(buf, at, code);
+            put_text(buf, at, message)
+        }
+        Message::Oack { pairs } => put(buf, at, pairs),
     }
 }
 

@@ -10,14 +10,14 @@ impl Agreed {
     pub fn new(block_size: u32, window: u32, patience: Patience) -> Result<Agreed, Refusal>
         ensures { Agrees block_size window patience result }
     {
-        if block_size < 8 || block_size > 1468 || window < 1 || window > 16 {
-            return Err(Refusal::OutOfRange);
+        match (block_size, window) {
+            (8..=1468, 1..=16) => Ok(Agreed {
+                block_size: block_size as u16,
+                window: window as u16,
+                patience,
+            }),
+            _ => Err(Refusal::OutOfRange),
         }
-        Ok(Agreed {
-            block_size: block_size as u16,
-            window: window as u16,
-            patience,
-        })
     }
 
     // What holds where no option is agreed: blocks of 512 bytes, window 1 and the end's own patience.

@@ -10,10 +10,7 @@ use crate::refusal::Refusal;
 pub fn is_legal_patience(wait: u32, tries: u32) -> bool
     ensures { result ≡ legal_patience wait tries }
 {
-    if wait < 1 || wait > 255 || tries > 15 {
-        return false;
-    }
-    (tries + 1) * wait <= 1530
+    matches!(wait, 1..=255) && tries <= 15 && (tries + 1) * wait <= 1530
 }
 
 impl Patience {

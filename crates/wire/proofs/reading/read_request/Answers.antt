@@ -1,20 +1,24 @@
-use Rattle.std.proofs.Common.{refl}
-use Rattle.std.proofs.lemmas.Bool.{false≢true}
+use Rattle.std.proofs.Common.{refl, arith, rules}
+use Rattle.std.proofs.lemmas.Bool.Decides.{nat_tests}
+use Rattle.grammar.specs.Grammar.{Paired}
 use Rattle.grammar.proofs.Bytes.{no_cut, one_cut}
-use Rattle.wire.proofs.Bytes.{asks_none, asks_some}
+use Rattle.wire.proofs.Bytes.{asks_none, asks_some, taken_not}
 use Rattle.wire.proofs.reading.read_request.Goals as goal
 
-pub returns-in_default : goal.returns-in_default
-returns-in_default c = (refl, λ m i. asks_none m _ _ i c.in_default.ensures)
+pub returns-in_err-name : goal.returns-in_err-name
+returns-in_err-name c = taken_not _ _ _ (search rules) (λ m i. asks_none m _ _ i (search rules))
 
-pub returns-in_default-cut : goal.returns-in_default-cut
-returns-in_default-cut c =
-    (refl, λ m i. let f = asks_some m _ _ _ _ i c.in-Some.ensures in no_cut f.0 f.1 _ f.2 c.in_default-cut.ensures)
+pub returns-in_err-mode : goal.returns-in_err-mode
+returns-in_err-mode c =
+    taken_not _ _ _ (search rules)
+    (λ m i. let f = asks_some m _ _ c.in_ok-name.name.now c.in_ok-name.after.now i (search rules) in
+    no_cut f.0 f.1 c.in_ok-name.after.now f.2 (search rules))
 
-pub returns-else-is_paired : goal.returns-else-is_paired
-returns-else-is_paired c = (
+pub returns-then-not-is_paired : goal.returns-then-not-is_paired
+returns-then-not-is_paired c = (
   refl,
-  λ m i. let f = asks_some m _ _ _ _ i c.in-Some.ensures in
-      let s = one_cut f.0 _ f.1 _ _ f.2 c.in-Some-cut.ensures in
-      false≢true (c.if-is_paired.ensures.1 (rw s.1 at f.3)),
+  λ m i. let f = asks_some m _ _ c.in_ok-name.name.now c.in_ok-name.after.now i (search rules) in
+      let s = one_cut f.0 c.in_ok-mode.mode.now f.1 c.in_ok-mode.pairs.now c.in_ok-name.after.now f.2 (search rules) in
+      let p : Paired c.in_ok-mode.pairs.now = rw s.1 at f.3 in
+      let b = c.is_paired.ensures.1 p in grind (arith, nat_tests),
 )
