@@ -1,7 +1,8 @@
 // Option pairs, one after the other: name, 0, value, 0.
-ghost use Rattle.std.specs.Prelude.{◌≡◌, List};
+ghost use Rattle.std.specs.Prelude.{◌≡◌, List, length};
+ghost use Rattle.std.specs.Iterator.{at_most};
 ghost use Rattle.option_pairs.specs.Pairs.{Are, has_name};
-ghost use Rattle.option_pairs.specs.Splits.{Splits};
+ghost use Rattle.option_pairs.specs.Splits.{Splits, TakesPair};
 ghost use Rattle.grammar.specs.Grammar.{Pair};
 
 use grammar::text::cut;
@@ -26,16 +27,32 @@ pub fn first(pairs: &[u8]) -> Option<Split<'_>>
     Some(Split { name, value, rest })
 }
 
+// The pairs that bytes begin with, one after the other.
+#[derive(Clone, Copy)]
+pub struct Pairs<'a>(pub &'a [u8]);
+
+impl<'a> Iterator for Pairs<'a> {
+    type Item = Split<'a>;
+
+    ghost next_gives = { TakesPair };
+
+    ghost remaining = { λ s. at_most (length s.0.now) };
+
+    fn next(&mut self) -> Option<Split<'a>> {
+        let pair = first(self.0)?;
+        self.0 = pair.rest;
+        Some(pair)
+    }
+}
+
 // Whether one of the pairs has the name, without regard to the case of A to Z.
 pub(crate) fn has_name(name: &[u8], pairs: &[u8]) -> bool
     ensures { (ps : List Pair) → Are ps pairs.now → result ≡ has_name name.now ps }
 {
-    let mut rest = pairs;
-    while let Some(pair) = first(rest) {
+    for pair in Pairs(pairs) {
         if pair.name.eq_ignore_ascii_case(name) {
             return true;
         }
-        rest = pair.rest;
     }
     false
 }

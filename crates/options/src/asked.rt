@@ -20,7 +20,7 @@ fn may_ask(ask: Ask, tries: u8) -> bool
     ensures { result ≡ may_ask tries ask.blksize ask.timeout ask.windowsize }
 {
     matches!(ask.blksize, 0 | 8..=1468)
-        && (ask.timeout == 0 || is_legal_patience(ask.timeout, tries as u32))
+        && (ask.timeout == 0 || is_legal_patience(ask.timeout, u32::from(tries)))
         && ask.windowsize <= 16
 }
 

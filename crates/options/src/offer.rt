@@ -25,7 +25,7 @@ fn cut_to(most: u32, wanted: Option<u32>) -> Option<u32>
 fn kept_if_legal(wanted: Option<u32>, tries: u8) -> Option<u32>
     ensures { result ≡ kept_if_legal tries wanted }
 {
-    wanted.filter(|wait| is_legal_patience(*wait, tries as u32))
+    wanted.filter(|wait| is_legal_patience(*wait, u32::from(tries)))
 }
 
 // Block size cut to 1,468 and window to 16; the timeout alike if it is legal with the end's own tries, else passed over.

@@ -11,7 +11,7 @@ use terms::refusal::Refusal;
 pub fn settle(options: Options, own: Patience) -> Result<Agreed, Refusal>
     ensures { Settles own options result }
 {
-    let wait = options.timeout.unwrap_or(own.wait as u32);
+    let wait = options.timeout.unwrap_or(u32::from(own.wait));
     let patience = own.with_wait(wait)?;
     let block_size = options.blksize.unwrap_or(512);
     let window = options.windowsize.unwrap_or(1);

@@ -37,7 +37,7 @@ impl Patience {
     pub fn with_wait(self, wait: u32) -> Result<Patience, Refusal>
         ensures { Patient wait self.tries result }
     {
-        Patience::new(wait, self.tries as u32)
+        Patience::new(wait, u32::from(self.tries))
     }
 
     // The seconds of silence after which a transfer gives up.
@@ -45,6 +45,6 @@ impl Patience {
         ensures value { result ≡ (self.tries + 1) * self.wait }
         ensures bound { result ≤ 1530 }
     {
-        (self.tries as u16 + 1) * self.wait as u16
+        (u16::from(self.tries) + 1) * u16::from(self.wait)
     }
 }

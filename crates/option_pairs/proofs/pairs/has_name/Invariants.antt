@@ -1,4 +1,4 @@
-use Rattle.std.proofs.Common.{◌≡◌, List, length}
+use Rattle.std.proofs.Common.{◌≡◌, List}
 use Rattle.grammar.specs.Grammar.{Pair}
 use Rattle.option_pairs.specs.Pairs.{Are, has_name}
 use Rattle.option_pairs.proofs.pairs.has_name.Given as goal
@@ -6,7 +6,4 @@ use Rattle.option_pairs.proofs.pairs.has_name.Given as goal
 -- the pairs that are left decide as all do
 abbrev pub invariant-loop-pair : goal.invariant-loop-pair
 invariant-loop-pair l =
-    (ps : List Pair) → Are ps l.pairs → (qs : List Pair) × Are qs l.rest × (has_name l.name qs ≡ has_name l.name ps)
-
-abbrev pub decreases-loop-pair : goal.decreases-loop-pair
-decreases-loop-pair l = length l.rest
+    (ps : List Pair) → Are ps l.pairs → (qs : List Pair) × Are qs l.pair-iterator.0.now × (has_name l.name qs ≡ has_name l.name ps)
