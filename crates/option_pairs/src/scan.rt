@@ -11,7 +11,8 @@ use crate::values::{Options, Range, Ranges};
 use grammar::pairs::is_paired;
 use terms::refusal::Refusal;
 
-// What pairs give: each option's value, and whether every pair is an option with a value in its range.
+// What pairs give: each option's value, and whether every pair is an option with a value in its range. The flag stays beside the values: it does not
+// say whether they are there, since the cabin takes what is found whatever the flag says.
 #[derive(Clone, Copy, PartialEq, Eq, Debug)]
 pub struct Scan {
     pub found: Options,
@@ -45,7 +46,8 @@ impl Scan {
     }
 }
 
-// Goes through the bytes of pairs one after the other; none where a name comes twice.
+// Goes through the bytes of pairs one after the other; none where a name comes twice. A rule of the project wants this loop byte by byte, so it keeps
+// its index.
 fn scan_pairs(bytes: &[u8], ranges: Ranges) -> Option<Scan>
     ensures { (ps : List Pair) → Are ps bytes.now → ScansPairs ranges ps result }
 {

@@ -7,7 +7,7 @@ use option_pairs::values::{Options, PerOption};
 use terms::patience::{Patience, is_legal_patience};
 use terms::refusal::Refusal;
 
-// The operands of an ask, 0 for an option that is not asked.
+// The operands of an ask. A rule of the project has 0 for an option that is not asked.
 pub type Ask = PerOption<u32>;
 
 fn given(n: u32) -> Option<u32>

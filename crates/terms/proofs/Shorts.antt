@@ -1,10 +1,8 @@
 -- Short byte strings: the zeros after their bytes, and what they hold.
-use Rattle.std.proofs.Common.{◌≡◌, ℕ, ◌+◌, ◌-◌, ◌≤◌, List, ◌++◌, length, drop, replicate, sym, refl, ap, ◌∙◌, arith}
+use Rattle.std.proofs.Common.{◌≡◌, ℕ, ◌+◌, ◌-◌, ◌≤◌, List, length, drop, replicate, sym, refl, ap, ◌∙◌, arith}
 use borrow.Rule.Slice.PartMut.{put_mid}
-use Rattle.std.proofs.lemmas.List.{drop-drop, drop-replicate, take-append-drop, length-take}
+use Rattle.std.proofs.lemmas.List.{drop-drop, drop-replicate}
 use Rattle.std.proofs.lemmas.Slice.{drop-put_mid}
-use Rattle.terms.specs.declared.short_bytes.ShortBytes.{ShortBytes}
-use Rattle.terms.specs.Short.{held, Holds}
 
 -- what follows the bytes is still zeros once more bytes are written over the first of them
 pub padded_more : (N len p : ℕ) (xs ys : List ℕ) → len + p ≤ N → len ≤ length xs → length ys ≡ p → drop len xs ≡ replicate (N - len) 0 → drop (len + p) (put_mid len (len + p - len) xs ys) ≡ replicate (N - (len + p)) 0
@@ -13,13 +11,3 @@ padded_more N len p xs ys h w l z =
     let left = sym (drop-drop p len xs) ∙ ap (drop p) z ∙ drop-replicate p (N - len) 0 in
     let less : N - len - p ≡ N - (len + p) = omega arith in
     rw (past, left, less) refl
-
--- what is held says the length and every byte
-pub holds : {N : ℕ} (bs : List ℕ) (s : ShortBytes N) → held s ≡ bs → Holds bs s
-holds {N} bs s e =
-    let len : s.len ≡ length bs = omega (arith, length-take s.len s.bytes, ap length e, s.short, s.whole) in
-    record {
-      text = e;
-      len = len;
-      whole = sym (take-append-drop s.len s.bytes) ∙ ap (λ t. t ++ drop s.len s.bytes) e ∙ ap (λ t. bs ++ t) s.padded ∙ ap (λ k. bs ++ replicate (N - k) 0) len;
-    }

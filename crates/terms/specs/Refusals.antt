@@ -29,10 +29,10 @@ number ServingEnd = 33
 number SourceBusy = 35
 number DraftState = 36
 
--- the one refusal of the number n, or out of range where none has it
-abbrev pub Numbered : ℕ → Result Refusal Refusal → Type 0
-Numbered n (Ok x) = number x ≡ n
-Numbered n (Err e) = (e ≡ OutOfRange) × ((x : Refusal) → number x ≢ n)
+-- the one value that has the number n, or out of range where none has it
+abbrev pub NumberedBy : {X : Type 0} → (X → ℕ) → ℕ → Result X Refusal → Type 0
+NumberedBy number n (Ok x) = number x ≡ n
+NumberedBy {X} number n (Err e) = (e ≡ OutOfRange) × ((x : X) → number x ≢ n)
 
 -- the code of the ERROR sent for a refusal, or none; the flag says that the refused datagram was an ERROR itself
 abbrev pub error_code : Refusal → Bool → Option ℕ

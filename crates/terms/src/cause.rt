@@ -1,6 +1,7 @@
 // Why a transfer failed: what refused it, or its peer's silence, or its peer's ERROR.
 ghost use Rattle.std.specs.Prelude.{◌≡◌};
-ghost use Rattle.terms.specs.Causes.{cause_number, CauseNumbered};
+ghost use Rattle.terms.specs.Refusals.{NumberedBy};
+ghost use Rattle.terms.specs.Causes.{cause_number};
 ghost use Rattle.terms.specs.declared.cause.Cause.TheVariants.{Refused};
 
 use crate::refusal::Refusal;
@@ -40,7 +41,7 @@ impl From<Refusal> for Cause {
 impl TryFrom<u8> for Cause {
     type Error = Refusal;
 
-    ghost try_from_gives = { CauseNumbered };
+    ghost try_from_gives = { NumberedBy cause_number };
 
     fn try_from(n: u8) -> Result<Cause, Refusal> {
         match n {

@@ -1,58 +1,63 @@
-// Why a call is sent away. Each case has one number, which logs, reports and programs show.
+// Why a call is sent away. Each case has one number, which logs, reports and programs show, and its words.
 ghost use Rattle.std.specs.Prelude.{◌≡◌};
-ghost use Rattle.terms.specs.Refusals.{number, error_code, Numbered};
+ghost use Rattle.terms.specs.Refusals.{number, error_code, NumberedBy};
 
-use std::fmt;
+use thiserror::Error;
 
-#[derive(Clone, Copy, PartialEq, Eq, Debug)]
+#[derive(Clone, Copy, PartialEq, Eq, Debug, Error)]
 pub enum Refusal {
-    // under two bytes, or an opcode that is not 1 to 6
+    #[error("under two bytes, or opcode not 1 to 6")]
     UnknownOpcode = 1,
-    // bytes that are not of the opcode's shape
+    #[error("bytes not of the opcode's shape")]
     Malformed = 2,
     // an item name that is not 1 to 32 bytes from 33 to 126
+    #[error("item name not legal")]
     IllegalName = 3,
-    // a mode other than octet
+    #[error("mode not octet")]
     UnsupportedMode = 4,
-    // an option name that comes twice
+    #[error("option name twice")]
     RepeatedOption = 5,
     // an operand out of range, a patience that is not legal, too little memory for a channel
+    #[error("operand out of range")]
     OutOfRange = 6,
-    // DATA longer than the block size
+    #[error("DATA longer than the block size")]
     OversizedData = 7,
     // an OACK that does not fit what was asked
+    #[error("OACK not accepted")]
     OptionsNotAccepted = 8,
-    // a work buffer under 1,472 bytes
+    #[error("work buffer under 1472 bytes")]
     ShortBuffer = 9,
-    // the channel has nothing for this side
+    #[error("nothing waiting on the channel")]
     NothingWaiting = 20,
     // no transfer at that place or TID
+    #[error("no transfer there")]
     NoTransfer = 21,
-    // the source is not the known peer
+    #[error("source is not the known peer")]
     WrongPeer = 22,
-    // a message that is of no use in the phase
+    #[error("of no use in the phase")]
     NotExpected = 23,
-    // four transfers stand
+    #[error("four transfers stand")]
     PlacesFull = 24,
     // every TID of this end has been given
+    #[error("TIDs spent")]
     TidsSpent = 25,
-    // no item of that name
+    #[error("no such item")]
     NoSuchItem = 26,
-    // the name is in use
+    #[error("name in use")]
     NameInUse = 27,
-    // no draft can be opened
+    #[error("no draft can be opened")]
     NoDraftFree = 28,
-    // the store does not take the piece
+    #[error("piece not taken")]
     NotTaken = 29,
-    // more than 65,535 blocks
+    #[error("more than 65535 blocks")]
     TooManyBlocks = 30,
-    // the transfer has not ended
+    #[error("transfer not ended")]
     NotEnded = 31,
-    // a serving end does not ask
+    #[error("a serving end does not ask")]
     ServingEnd = 33,
-    // the source has a transfer standing here
+    #[error("source has a transfer standing here")]
     SourceBusy = 35,
-    // the draft is open already, or is not open
+    #[error("draft open already, or not open")]
     DraftState = 36,
 }
 
@@ -79,42 +84,13 @@ impl Refusal {
             _ => None,
         }
     }
-
-    fn words(self) -> &'static str {
-        match self {
-            Refusal::UnknownOpcode => "under two bytes, or opcode not 1 to 6",
-            Refusal::Malformed => "bytes not of the opcode's shape",
-            Refusal::IllegalName => "item name not legal",
-            Refusal::UnsupportedMode => "mode not octet",
-            Refusal::RepeatedOption => "option name twice",
-            Refusal::OutOfRange => "operand out of range",
-            Refusal::OversizedData => "DATA longer than the block size",
-            Refusal::OptionsNotAccepted => "OACK not accepted",
-            Refusal::ShortBuffer => "work buffer under 1472 bytes",
-            Refusal::NothingWaiting => "nothing waiting on the channel",
-            Refusal::NoTransfer => "no transfer there",
-            Refusal::WrongPeer => "source is not the known peer",
-            Refusal::NotExpected => "of no use in the phase",
-            Refusal::PlacesFull => "four transfers stand",
-            Refusal::TidsSpent => "TIDs spent",
-            Refusal::NoSuchItem => "no such item",
-            Refusal::NameInUse => "name in use",
-            Refusal::NoDraftFree => "no draft can be opened",
-            Refusal::NotTaken => "piece not taken",
-            Refusal::TooManyBlocks => "more than 65535 blocks",
-            Refusal::NotEnded => "transfer not ended",
-            Refusal::ServingEnd => "a serving end does not ask",
-            Refusal::SourceBusy => "source has a transfer standing here",
-            Refusal::DraftState => "draft open already, or not open",
-        }
-    }
 }
 
 // The refusal of that number; a number that none has is out of range.
 impl TryFrom<u8> for Refusal {
     type Error = Refusal;
 
-    ghost try_from_gives = { Numbered };
+    ghost try_from_gives = { NumberedBy number };
 
     fn try_from(n: u8) -> Result<Refusal, Refusal> {
         Ok(match n {
@@ -144,12 +120,5 @@ impl TryFrom<u8> for Refusal {
             36 => Refusal::DraftState,
             _ => return Err(Refusal::OutOfRange),
         })
-    }
-}
-
-// In words.
-impl fmt::Display for Refusal {
-    fn fmt<W: fmt::Write>(&self, f: &mut fmt::Formatter<W>) -> fmt::Result {
-        f.write_str(self.words())
     }
 }

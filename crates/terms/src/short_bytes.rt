@@ -1,4 +1,5 @@
-// A few bytes, at most N, kept in place: they take no memory of their own, so that making and copying them cannot fail.
+// A few bytes, at most N, kept in place: a buffer with its length, since the rules want names and option pairs without a heap, so that making and
+// copying them cannot fail.
 ghost use Rattle.std.specs.Prelude.{◌≡◌, ◌-◌, ◌≤◌, length, drop, replicate};
 
 #[derive(Clone, Copy)]

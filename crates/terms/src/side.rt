@@ -1,6 +1,7 @@
 // The two ends of the line: the shield asks, the cabin serves.
 ghost use Rattle.std.specs.Prelude.{◌≡◌, Some};
-ghost use Rattle.terms.specs.Sides.{side_number, side_word, opposite, SideNumbered};
+ghost use Rattle.terms.specs.Refusals.{NumberedBy};
+ghost use Rattle.terms.specs.Sides.{side_number, side_word, opposite};
 
 use crate::refusal::Refusal;
 use std::fmt;
@@ -43,7 +44,7 @@ impl Side {
 impl TryFrom<u8> for Side {
     type Error = Refusal;
 
-    ghost try_from_gives = { SideNumbered };
+    ghost try_from_gives = { NumberedBy side_number };
 
     fn try_from(n: u8) -> Result<Side, Refusal> {
         match n {

@@ -25,10 +25,6 @@ wide_nil xs n l b e =
     let z : length xs - 2 ≡ 0 = omega arith in
     rw z at (wide_is xs n h b e)
 
-pub fault_is : (xs t x : List ℕ) (n : ℕ) → 2 ≤ length xs → get_or xs 1 0 < 256 → n ≡ get_or xs 0 0 * 256 + get_or xs 1 0 → Cut t x (take (length xs - 2) (drop 2 xs)) → length x < 1 → wide n (t ++ 0 ∷ []) ≡ xs
-fault_is xs t [] n l b e p _ = ap (wide n) p.whole ∙ wide_is xs n l b e
-fault_is xs t (y ∷ x) n l b e p h = absurd (omega arith)
-
 -- what is answered to the bytes after an opcode is answered to the whole
 opened : (k : Kind) (bs : List ℕ) → 2 ≤ length bs → get_or bs 0 0 ≡ 0 → get_or bs 1 0 ≡ code k → 0 ∷ code k ∷ take (length bs - 2) (drop 2 bs) ≡ bs
 opened k (a ∷ b ∷ bs) _ p q = rw take_rest (cc)
@@ -52,9 +48,6 @@ fault_cut (requestMsg a n m ps) bs p = absurd (search rules)
 fault_cut (blockMsg n d) bs p = absurd (search rules)
 fault_cut (ackMsg n) bs p = absurd (search rules)
 fault_cut (oackMsg ps) bs p = absurd (search rules)
-
-pub fault_none : (m : Msg) (bs : List ℕ) → Is m fault bs → Text (take (length bs - 2) (drop 2 bs)) → ⊥
-fault_none m bs p h = let f = fault_cut m bs p in no_cut f.0 [] _ f.1 h
 
 pub fault_some : (m : Msg) (bs t x : List ℕ) → Is m fault bs → Cut t x (take (length bs - 2) (drop 2 bs)) → (length x ≡ 0) × (length t ≤ 128)
 fault_some m bs t x p q =
