@@ -11,11 +11,6 @@ returns-in-Start-eq0 c =
     let a = at_drop_more (walk c.loop-b.part) c.args.bytes.now c.loop-b.b-index 0 c.loop-b-test.true in
     (λ f. absurd (false≢true f), λ p. let k = complete c.args.bytes.now p in grind (arith, nat_tests))
 
-pub loop-b-preserved : goal.loop-b-preserved
-loop-b-preserved c =
-    let a = at_drop_more (walk c.loop-b.part) c.args.bytes.now c.loop-b.b-index 0 c.loop-b-test.true in
-    grind (arith, nat_tests)
-
 pub returns-in-Start : goal.returns-in-Start
 returns-in-Start c =
     let a = at_drop_all (walk c.loop-b.part) c.args.bytes.now c.loop-b.b-index c.loop-b-test.false in

@@ -1,5 +1,5 @@
-use Rattle.std.proofs.Common.{ℕ, ◌+◌, ◌-◌, ◌*◌, ◌≤◌, List, [], ◌∷◌, get_or, drop, arith, rules, below_more}
-use Rattle.std.proofs.lemmas.List.{at_drop_more, at_drop_all}
+use Rattle.std.proofs.Common.{ℕ, ◌+◌, ◌-◌, ◌*◌, ◌≤◌, List, [], ◌∷◌, get_or, drop, arith}
+use Rattle.std.proofs.lemmas.List.{at_drop_more}
 use Rattle.option_pairs.specs.Number.{read_on}
 use Rattle.option_pairs.proofs.number.number.Goals as goal
 
@@ -12,14 +12,3 @@ returns-then-n-gt4294967295 c p =
     let a = at_drop_more (read_on c.loop-b.n) c.args.value.now c.loop-b.b-index 0 c.loop-b-test.true in
     let g = grows (10 * c.loop-b.n + (get_or c.args.value.now c.loop-b.b-index 0 - 48)) (drop (c.loop-b.b-index + 1) c.args.value.now) in
     omega (arith, p.limit)
-
-pub loop-b-preserved : goal.loop-b-preserved
-loop-b-preserved c =
-    let a = at_drop_more (read_on c.loop-b.n) c.args.value.now c.loop-b.b-index 0 c.loop-b-test.true in
-    (search rules, cc, below_more _ _ c.loop-b.invariant.2 (search rules))
-
-pub returns : goal.returns
-returns c =
-    let a = at_drop_all (read_on c.loop-b.n) c.args.value.now c.loop-b.b-index c.loop-b-test.false in
-    let d = c.loop-b.invariant.2 in
-    search rules
