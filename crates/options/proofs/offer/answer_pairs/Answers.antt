@@ -11,16 +11,3 @@ returns-in_err-agreed c =
     let m = answer_may_settle c.args.own s.0 _ f in
     let a = c.answer-answer.ensures in
     absurd (both_ways _ c.in_err-agreed.ensures.1 (rw a m))
-
-pub returns : goal.returns
-returns c =
-    let s = c.in_ok-scan.ensures in
-    let f = subst (λ rs. Finds rs s.0 c.in_ok-scan.scan.found) c.of_request.ensures s.2.found in (
-      s.0,
-      s.1,
-      record {
-        once = s.2.once;
-        answer = (_, f, c.answer-answer.ensures);
-        agreed = c.in_ok-agreed.ensures;
-      },
-    )
