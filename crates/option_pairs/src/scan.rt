@@ -1,12 +1,13 @@
 // The option pairs of a request or an OACK, gone through byte by byte.
 ghost use Rattle.std.specs.Prelude.{◌≡◌, List, MatchOption};
-ghost use Rattle.grammar.specs.Grammar.{Pair};
+ghost use Rattle.grammar.specs.Grammar.{Pair as PairOf};
 ghost use Rattle.option_pairs.specs.Number.{numeral_value};
 ghost use Rattle.option_pairs.specs.Pairs.{Are};
 ghost use Rattle.option_pairs.specs.Scan.{Fits, Notes, Scans, ScansPairs};
+ghost use Rattle.option_pairs.specs.Splits.{as_pair};
 
 use crate::number::number;
-use crate::pairs::has_name;
+use crate::pairs::{Pair, has_name};
 use crate::values::{Options, Range, Ranges};
 use grammar::pairs::is_paired;
 use terms::refusal::Refusal;
@@ -20,20 +21,20 @@ pub struct Scan {
 }
 
 // The number of the pair, where it is the option with this word and its number lies in the range.
-fn valid(word: &[u8], range: Range, name: &[u8], value: &[u8]) -> Option<u32>
-    ensures { MatchOption result (Fits word.now range (record { name = name.now; value = value.now }) → ⊥) (λ n. Fits word.now range (record { name = name.now; value = value.now }) × (n ≡ numeral_value value.now)) }
+fn valid(word: &[u8], range: Range, pair: Pair<'_>) -> Option<u32>
+    ensures { MatchOption result (Fits word.now range (as_pair pair.entry) → ⊥) (λ n. Fits word.now range (as_pair pair.entry) × (n ≡ numeral_value pair.entry.value.now)) }
 {
-    number(value).filter(|n| name.eq_ignore_ascii_case(word) && range.contains(*n))
+    number(pair.value).filter(|n| pair.name.eq_ignore_ascii_case(word) && range.contains(*n))
 }
 
 impl Scan {
     // One pair more.
-    fn note(self, ranges: Ranges, name: &[u8], value: &[u8]) -> Scan
-        ensures { Notes ranges self (record { name = name.now; value = value.now }) result }
+    fn note(self, ranges: Ranges, pair: Pair<'_>) -> Scan
+        ensures { Notes ranges self (as_pair pair.entry) result }
     {
-        let blksize = valid(b"blksize", ranges.blksize, name, value);
-        let timeout = valid(b"timeout", ranges.timeout, name, value);
-        let windowsize = valid(b"windowsize", ranges.windowsize, name, value);
+        let blksize = valid(b"blksize", ranges.blksize, pair);
+        let timeout = valid(b"timeout", ranges.timeout, pair);
+        let windowsize = valid(b"windowsize", ranges.windowsize, pair);
         let known = blksize.is_some() || timeout.is_some() || windowsize.is_some();
         Scan {
             found: Options {
@@ -49,7 +50,7 @@ impl Scan {
 // Goes through the bytes of pairs one after the other; none where a name comes twice. A rule of the project wants this loop byte by byte, so it keeps
 // its index.
 fn scan_pairs(bytes: &[u8], ranges: Ranges) -> Option<Scan>
-    ensures { (ps : List Pair) → Are ps bytes.now → ScansPairs ranges ps result }
+    ensures { (ps : List PairOf) → Are ps bytes.now → ScansPairs ranges ps result }
 {
     let mut scan = Scan {
         found: Options {
@@ -69,7 +70,13 @@ fn scan_pairs(bytes: &[u8], ranges: Ranges) -> Option<Scan>
                 if has_name(n, &bytes[start..]) {
                     return None;
                 }
-                scan = scan.note(ranges, n, part);
+                scan = scan.note(
+                    ranges,
+                    Pair {
+                        name: n,
+                        value: part,
+                    },
+                );
                 name = None;
             } else {
                 name = Some(part);
