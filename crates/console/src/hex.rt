@@ -4,6 +4,7 @@ ghost use Rattle.console.specs.declared.hex.HexFault.TheVariants.{NoMemory};
 ghost use Rattle.console.specs.Hex.{Decodes, byte_value, digit_value};
 
 use std::alloc::{AllocError, AllocFailed, Global};
+use std::error::Error;
 use std::fmt;
 
 // Why a text is not bytes in hexadecimal digits.
@@ -17,6 +18,7 @@ pub enum HexFault {
     NoMemory,
 }
 
+// By hand: a derived `From` states no clause, and without one the proof of `decode_hex` does not close.
 impl From<AllocError> for HexFault {
     ghost from_gives = { λ _ r. r ≡ NoMemory };
 
@@ -38,13 +40,18 @@ impl fmt::Display for HexFault {
         match *self {
             HexFault::OddLength => write!(f, "odd number of hex digits"),
             HexFault::NotADigit(place) => {
-                let at = place.saturating_add(1);
-                write!(f, "no hex digit at or after character {at} of the hex")
+                write!(
+                    f,
+                    "no hex digit at or after character {} of the hex",
+                    place.saturating_add(1)
+                )
             }
             HexFault::NoMemory => write!(f, "no memory for the bytes"),
         }
     }
 }
+
+impl Error for HexFault {}
 
 // The value of a hexadecimal digit, in either case.
 pub fn hex_digit(digit: u8) -> Option<u8>
@@ -61,13 +68,7 @@ pub fn hex_digit(digit: u8) -> Option<u8>
 fn hex_byte(high: u8, low: u8) -> Option<u8>
     ensures { result ≡ byte_value high low }
 {
-    let Some(h) = hex_digit(high) else {
-        return None;
-    };
-    let Some(l) = hex_digit(low) else {
-        return None;
-    };
-    Some(h * 16 + l)
+    Some(hex_digit(high)? * 16 + hex_digit(low)?)
 }
 
 // The bytes that the digits stand for.
@@ -75,17 +76,11 @@ pub fn decode_hex(heap: Global, digits: &[u8]) -> Result<Vec<u8>, HexFault>
     ensures { Decodes digits.now result }
 {
     let mut bytes = Vec::new(heap);
-    let mut at = 0;
-    while at + 1 < digits.len() {
-        let Some(byte) = hex_byte(digits[at], digits[at + 1]) else {
-            return Err(HexFault::NotADigit(at));
+    for (i, pair) in digits.chunks(2).enumerate() {
+        let [high, low] = pair else {
+            return Err(HexFault::OddLength);
         };
-        bytes.push(byte)?;
-        at += 2;
+        bytes.push(hex_byte(*high, *low).ok_or(HexFault::NotADigit(2 * i))?)?;
     }
-    if at == digits.len() {
-        Ok(bytes)
-    } else {
-        Err(HexFault::OddLength)
-    }
+    Ok(bytes)
 }

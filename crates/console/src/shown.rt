@@ -2,22 +2,22 @@
 use std::fmt;
 
 // Visible characters as they are, every other byte as \xNN, with or without quotation marks round them.
-#[derive(Clone, Copy)]
+#[derive(Clone, Copy, PartialEq, Eq, Debug)]
 pub struct Shown<'a>(pub &'a [u8]);
 
-#[derive(Clone, Copy)]
+#[derive(Clone, Copy, PartialEq, Eq, Debug)]
 pub struct Quoted<'a>(pub &'a [u8]);
 
 // Two hexadecimal digits for each byte; a dash where there is none.
-#[derive(Clone, Copy)]
+#[derive(Clone, Copy, PartialEq, Eq, Debug)]
 pub struct HexDigits<'a>(pub &'a [u8]);
 
 fn show_byte<W: fmt::Write>(b: u8, f: &mut fmt::Formatter<W>) -> fmt::Result {
-    if b < 33 || b > 126 {
-        return write!(f, "\\x{b:02x}");
+    if b.is_ascii_graphic() {
+        write!(f, "{}", char::from(b))
+    } else {
+        write!(f, "\\x{b:02x}")
     }
-    let c = char::from(b);
-    write!(f, "{c}")
 }
 
 impl fmt::Display for Shown<'_> {
@@ -31,8 +31,7 @@ impl fmt::Display for Shown<'_> {
 
 impl fmt::Display for Quoted<'_> {
     fn fmt<W: fmt::Write>(&self, f: &mut fmt::Formatter<W>) -> fmt::Result {
-        let text = Shown(self.0);
-        write!(f, "\"{text}\"")
+        write!(f, "\"{}\"", Shown(self.0))
     }
 }
 
@@ -42,8 +41,7 @@ impl fmt::Display for HexDigits<'_> {
             return write!(f, "-");
         }
         for b in self.0 {
-            let byte = *b;
-            write!(f, "{byte:02x}")?;
+            write!(f, "{b:02x}")?;
         }
         Ok(())
     }
