@@ -1,5 +1,6 @@
 // What the two ends hold after an exchange of options.
-use crate::judged::{Refused, compare};
+use crate::example::Case;
+use crate::outcome::{Outcome, compare};
 use grammar::message::Message;
 use options::accept::accept_pairs;
 use options::asked::{Ask, ask_options};
@@ -10,72 +11,63 @@ use terms::patience::Patience;
 use terms::refusal::Refusal;
 use wire::reading::read;
 
-// What an end holds, or why it holds nothing.
+// An OACK that answers an ask.
+#[derive(Clone, Copy, Debug)]
+pub struct Oack {
+    pub ask: Ask,
+    pub bytes: &'static [u8],
+}
+
+// What an end holds.
 #[derive(Clone, Copy)]
-struct Held(Result<Agreed, Refusal>);
+struct Held(Agreed);
 
 impl fmt::Display for Held {
     fn fmt<W: fmt::Write>(&self, f: &mut fmt::Formatter<W>) -> fmt::Result {
-        match self.0 {
-            Ok(agreed) => {
-                let size = agreed.block_size;
-                let window = agreed.window;
-                let wait = agreed.patience.wait;
-                let tries = agreed.patience.tries;
-                write!(
-                    f,
-                    "block size {size}, window {window}, wait {wait}, tries {tries}"
-                )
-            }
-            Err(why) => {
-                let refused = Refused(why);
-                write!(f, "{refused}")
-            }
-        }
+        let Agreed {
+            block_size,
+            window,
+            patience: Patience { wait, tries },
+        } = self.0;
+        write!(
+            f,
+            "block size {block_size}, window {window}, wait {wait}, tries {tries}"
+        )
     }
 }
 
-fn judge_held(
-    rt: &HostRuntime,
-    label: &str,
-    held: Result<Agreed, Refusal>,
-    words: &str,
-) -> io::Result<bool> {
-    let came = format!(in rt.alloc(); "{}", Held(held))?;
-    compare(rt, label, came.as_str(), words)
-}
-
 // What a shield of standard patience makes of the OACK to its ask.
-fn hear_oack(ask: Ask, datagram: &[u8]) -> Result<Agreed, Refusal> {
+fn hear_oack(oack: Oack) -> Result<Agreed, Refusal> {
     let own = Patience::standard();
-    let asked = ask_options(ask, own)?;
-    match read(datagram)? {
+    let asked = ask_options(oack.ask, own)?;
+    match read(oack.bytes)? {
         Message::Oack { pairs } => accept_pairs(asked, own, pairs),
         _ => Err(Refusal::NotExpected),
     }
 }
 
-// Hears the OACK; answers whether the shield then holds what it should.
-pub fn judge_oack(rt: &HostRuntime, ask: Ask, datagram: &[u8], words: &str) -> io::Result<bool> {
-    judge_held(rt, "shield", hear_oack(ask, datagram), words)
+impl Case for Oack {
+    // Hears the OACK; the words are what the shield then holds.
+    fn judge(&self, rt: &HostRuntime, words: &str) -> io::Result<bool> {
+        compare(rt, "shield", Outcome(hear_oack(*self).map(Held)), words)
+    }
 }
 
-// Runs the exchange between ends of standard patience; answers whether both hold what they should.
-pub fn judge_exchange(rt: &HostRuntime, ask: Ask, words: &str) -> io::Result<bool> {
-    let own = Patience::standard();
-    match exchange_options(ask, own, own) {
-        Ok(exchange) => {
-            let shield_is_right = judge_held(rt, "shield", Ok(exchange.shield), words)?;
-            let cabin_is_right = judge_held(rt, "cabin", Ok(exchange.cabin), words)?;
-            let came = if agree(exchange) {
-                "alike"
-            } else {
-                "not alike"
-            };
-            let is_alike = compare(rt, "both ends", came, "alike")?;
-            Ok(shield_is_right && cabin_is_right && is_alike)
-        }
-        Err(why) => judge_held(rt, "shield", Err(why), words),
+// An ask is the case of a whole exchange.
+impl Case for Ask {
+    // Runs the exchange between ends of standard patience; the words are what each then holds.
+    fn judge(&self, rt: &HostRuntime, words: &str) -> io::Result<bool> {
+        let own = Patience::standard();
+        let exchange = exchange_options(*self, own, own);
+        let shield = Outcome(exchange.map(|both| Held(both.shield)));
+        let shield_is_right = compare(rt, "shield", shield, words)?;
+        let Ok(both) = exchange else {
+            return Ok(shield_is_right);
+        };
+        let cabin_is_right = compare(rt, "cabin", Held(both.cabin), words)?;
+        let came = if agree(both) { "alike" } else { "not alike" };
+        let is_alike = compare(rt, "both ends", came, "alike")?;
+        Ok(shield_is_right && cabin_is_right && is_alike)
     }
 }
 

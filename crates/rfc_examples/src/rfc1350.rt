@@ -1,215 +1,276 @@
 // RFC 1350, the protocol.
+use crate::datagrams::Datagram;
 use crate::example::Example;
 
-pub static EXAMPLES: [Example; 30] = [
+pub static EXAMPLES: [Example<Datagram>; 30] = [
     Example {
         source: "RFC 1350",
         about: "opcode 1, read request",
-        datagram: b"\0\x01foobar\0octet\0",
+        case: Datagram {
+            bytes: b"\0\x01foobar\0octet\0",
+            service: Some("no OACK"),
+        },
         words: "RRQ foobar octet",
-        service: "no OACK",
     },
     Example {
         source: "RFC 1350",
         about: "opcode 2, write request",
-        datagram: b"\0\x02foobar\0octet\0",
+        case: Datagram {
+            bytes: b"\0\x02foobar\0octet\0",
+            service: Some("no OACK"),
+        },
         words: "WRQ foobar octet",
-        service: "no OACK",
     },
     Example {
         source: "RFC 1350",
         about: "opcode 3, data",
-        datagram: b"\0\x03\0\x01abc",
+        case: Datagram {
+            bytes: b"\0\x03\0\x01abc",
+            service: None,
+        },
         words: "DATA 1 3",
-        service: "",
     },
     Example {
         source: "RFC 1350",
         about: "opcode 4, acknowledgment",
-        datagram: b"\0\x04\0\x01",
+        case: Datagram {
+            bytes: b"\0\x04\0\x01",
+            service: None,
+        },
         words: "ACK 1",
-        service: "",
     },
     Example {
         source: "RFC 1350",
         about: "opcode 5, error, without a message",
-        datagram: b"\0\x05\0\0\0",
+        case: Datagram {
+            bytes: b"\0\x05\0\0\0",
+            service: None,
+        },
         words: "ERROR 0",
-        service: "",
     },
     Example {
         source: "RFC 1350",
         about: "opcode 0, before the table",
-        datagram: b"\0\0foobar\0octet\0",
+        case: Datagram {
+            bytes: b"\0\0foobar\0octet\0",
+            service: None,
+        },
         words: "refused 1 under two bytes, or opcode not 1 to 6",
-        service: "",
     },
     Example {
         source: "RFC 1350",
         about: "opcode 7, past the table and RFC 2347",
-        datagram: b"\0\x07foobar\0octet\0",
+        case: Datagram {
+            bytes: b"\0\x07foobar\0octet\0",
+            service: None,
+        },
         words: "refused 1 under two bytes, or opcode not 1 to 6",
-        service: "",
     },
     Example {
         source: "RFC 1350",
         about: "a read request in netascii",
-        datagram: b"\0\x01foobar\0netascii\0",
+        case: Datagram {
+            bytes: b"\0\x01foobar\0netascii\0",
+            service: Some("refused 4 mode not octet"),
+        },
         words: "RRQ foobar netascii",
-        service: "refused 4 mode not octet",
     },
     Example {
         source: "RFC 1350",
         about: "a write request in netascii",
-        datagram: b"\0\x02foobar\0netascii\0",
+        case: Datagram {
+            bytes: b"\0\x02foobar\0netascii\0",
+            service: Some("refused 4 mode not octet"),
+        },
         words: "WRQ foobar netascii",
-        service: "refused 4 mode not octet",
     },
     Example {
         source: "RFC 1350",
         about: "a write request in mail, with a recipient for the file",
-        datagram: b"\0\x02user\0mail\0",
+        case: Datagram {
+            bytes: b"\0\x02user\0mail\0",
+            service: Some("refused 4 mode not octet"),
+        },
         words: "WRQ user mail",
-        service: "refused 4 mode not octet",
     },
     Example {
         source: "RFC 1350",
         about: "a read request in mail, which only a WRQ may begin",
-        datagram: b"\0\x01user\0mail\0",
+        case: Datagram {
+            bytes: b"\0\x01user\0mail\0",
+            service: Some("refused 4 mode not octet"),
+        },
         words: "RRQ user mail",
-        service: "refused 4 mode not octet",
     },
     Example {
         source: "RFC 1350",
         about: "the mode in upper case, NETASCII",
-        datagram: b"\0\x01foobar\0NETASCII\0",
+        case: Datagram {
+            bytes: b"\0\x01foobar\0NETASCII\0",
+            service: Some("refused 4 mode not octet"),
+        },
         words: "RRQ foobar NETASCII",
-        service: "refused 4 mode not octet",
     },
     Example {
         source: "RFC 1350",
         about: "the mode in both cases, NetAscii",
-        datagram: b"\0\x01foobar\0NetAscii\0",
+        case: Datagram {
+            bytes: b"\0\x01foobar\0NetAscii\0",
+            service: Some("refused 4 mode not octet"),
+        },
         words: "RRQ foobar NetAscii",
-        service: "refused 4 mode not octet",
     },
     Example {
         source: "RFC 1350",
         about: "the mode in upper case, OCTET",
-        datagram: b"\0\x01foobar\0OCTET\0",
+        case: Datagram {
+            bytes: b"\0\x01foobar\0OCTET\0",
+            service: Some("no OACK"),
+        },
         words: "RRQ foobar OCTET",
-        service: "no OACK",
     },
     Example {
         source: "RFC 1350",
         about: "the mode in both cases, Octet",
-        datagram: b"\0\x02foobar\0Octet\0",
+        case: Datagram {
+            bytes: b"\0\x02foobar\0Octet\0",
+            service: Some("no OACK"),
+        },
         words: "WRQ foobar Octet",
-        service: "no OACK",
     },
     Example {
         source: "RFC 1350",
         about: "the mode in both cases, oCtEt",
-        datagram: b"\0\x02foobar\0oCtEt\0",
+        case: Datagram {
+            bytes: b"\0\x02foobar\0oCtEt\0",
+            service: Some("no OACK"),
+        },
         words: "WRQ foobar oCtEt",
-        service: "no OACK",
     },
     Example {
         source: "RFC 1350",
         about: "the mode in upper case, MAIL",
-        datagram: b"\0\x02user\0MAIL\0",
+        case: Datagram {
+            bytes: b"\0\x02user\0MAIL\0",
+            service: Some("refused 4 mode not octet"),
+        },
         words: "WRQ user MAIL",
-        service: "refused 4 mode not octet",
     },
     Example {
         source: "RFC 1350",
         about: "a file name with a space, which netascii has",
-        datagram: b"\0\x01foo bar\0octet\0",
+        case: Datagram {
+            bytes: b"\0\x01foo bar\0octet\0",
+            service: Some("refused 3 item name not legal"),
+        },
         words: "RRQ foo\\x20bar octet",
-        service: "refused 3 item name not legal",
     },
     Example {
         source: "RFC 1350",
         about: "a write begins: WRQ",
-        datagram: b"\0\x02foobar\0octet\0",
+        case: Datagram {
+            bytes: b"\0\x02foobar\0octet\0",
+            service: Some("no OACK"),
+        },
         words: "WRQ foobar octet",
-        service: "no OACK",
     },
     Example {
         source: "RFC 1350",
         about: "a write begins: ACK of block 0",
-        datagram: b"\0\x04\0\0",
+        case: Datagram {
+            bytes: b"\0\x04\0\0",
+            service: None,
+        },
         words: "ACK 0",
-        service: "",
     },
     Example {
         source: "RFC 1350",
         about: "a read begins: RRQ",
-        datagram: b"\0\x01foobar\0octet\0",
+        case: Datagram {
+            bytes: b"\0\x01foobar\0octet\0",
+            service: Some("no OACK"),
+        },
         words: "RRQ foobar octet",
-        service: "no OACK",
     },
     Example {
         source: "RFC 1350",
         about: "a read begins: ACK of block 1",
-        datagram: b"\0\x04\0\x01",
+        case: Datagram {
+            bytes: b"\0\x04\0\x01",
+            service: None,
+        },
         words: "ACK 1",
-        service: "",
     },
     Example {
         source: "RFC 1350",
         about: "error 0",
-        datagram: b"\0\x05\0\0Not defined, see error message (if any).\0",
+        case: Datagram {
+            bytes: b"\0\x05\0\0Not defined, see error message (if any).\0",
+            service: None,
+        },
         words: "ERROR 0 Not\\x20defined,\\x20see\\x20error\\x20message\\x20(if\\x20any).",
-        service: "",
     },
     Example {
         source: "RFC 1350",
         about: "error 1",
-        datagram: b"\0\x05\0\x01File not found.\0",
+        case: Datagram {
+            bytes: b"\0\x05\0\x01File not found.\0",
+            service: None,
+        },
         words: "ERROR 1 File\\x20not\\x20found.",
-        service: "",
     },
     Example {
         source: "RFC 1350",
         about: "error 2",
-        datagram: b"\0\x05\0\x02Access violation.\0",
+        case: Datagram {
+            bytes: b"\0\x05\0\x02Access violation.\0",
+            service: None,
+        },
         words: "ERROR 2 Access\\x20violation.",
-        service: "",
     },
     Example {
         source: "RFC 1350",
         about: "error 3",
-        datagram: b"\0\x05\0\x03Disk full or allocation exceeded.\0",
+        case: Datagram {
+            bytes: b"\0\x05\0\x03Disk full or allocation exceeded.\0",
+            service: None,
+        },
         words: "ERROR 3 Disk\\x20full\\x20or\\x20allocation\\x20exceeded.",
-        service: "",
     },
     Example {
         source: "RFC 1350",
         about: "error 4",
-        datagram: b"\0\x05\0\x04Illegal TFTP operation.\0",
+        case: Datagram {
+            bytes: b"\0\x05\0\x04Illegal TFTP operation.\0",
+            service: None,
+        },
         words: "ERROR 4 Illegal\\x20TFTP\\x20operation.",
-        service: "",
     },
     Example {
         source: "RFC 1350",
         about: "error 5",
-        datagram: b"\0\x05\0\x05Unknown transfer ID.\0",
+        case: Datagram {
+            bytes: b"\0\x05\0\x05Unknown transfer ID.\0",
+            service: None,
+        },
         words: "ERROR 5 Unknown\\x20transfer\\x20ID.",
-        service: "",
     },
     Example {
         source: "RFC 1350",
         about: "error 6",
-        datagram: b"\0\x05\0\x06File already exists.\0",
+        case: Datagram {
+            bytes: b"\0\x05\0\x06File already exists.\0",
+            service: None,
+        },
         words: "ERROR 6 File\\x20already\\x20exists.",
-        service: "",
     },
     Example {
         source: "RFC 1350",
         about: "error 7",
-        datagram: b"\0\x05\0\x07No such user.\0",
+        case: Datagram {
+            bytes: b"\0\x05\0\x07No such user.\0",
+            service: None,
+        },
         words: "ERROR 7 No\\x20such\\x20user.",
-        service: "",
     },
 ];
