@@ -1,25 +1,24 @@
 // The commands of a script, one a line.
-use crate::lines::split_word;
-use console::hex::{HexFault, decode_hex};
+use crate::fault::Fault;
+use crate::lines::Words;
+use console::filling::fill_bytes;
+use console::hex::decode_hex;
 use option_pairs::number::number;
-use std::alloc::{AllocError, AllocFailed, Global};
-use std::fmt;
+use std::alloc::Global;
 use terms::side::Side;
 
 // The most bytes that a script may have filled in.
 const FILL_MAX: u32 = 16_777_216;
 
 // Which store an end is set up with.
-#[derive(Clone, Copy)]
+#[derive(Clone, Copy, PartialEq, Eq, Debug)]
 pub enum Kind {
     Slot,
     Paged,
 }
 
-#[derive(Drop)]
-pub enum Command {
-    // a blank line or a comment
-    Nothing,
+#[derive(Debug, Drop)]
+pub enum Command<'a> {
     // read HEX: explain a captured datagram
     Read(Vec<u8>),
     // END slot BYTES, or END paged PAGES
@@ -31,174 +30,104 @@ pub enum Command {
     // lay END NAME HEX, or lay END NAME fill COUNT
     Lay {
         side: Side,
-        name: Vec<u8>,
+        name: &'a [u8],
         bytes: Vec<u8>,
     },
     Items(Side),
     Show {
         side: Side,
-        name: Vec<u8>,
+        name: &'a [u8],
     },
 }
 
-// Why a line cannot be read.
-#[derive(Clone, Copy)]
-pub enum Fault {
-    UnknownCommand,
-    // how the command is written
-    Usage(&'static str),
-    Hex(HexFault),
-    NoMemory,
-}
-
-impl From<HexFault> for Fault {
-    fn from(why: HexFault) -> Fault {
-        Fault::Hex(why)
-    }
-}
-
-impl From<AllocError> for Fault {
-    fn from(_why: AllocError) -> Fault {
-        Fault::NoMemory
-    }
-}
-
-impl<T: Drop> From<AllocFailed<T>> for Fault {
-    fn from(_why: AllocFailed<T>) -> Fault {
-        Fault::NoMemory
-    }
-}
-
-impl fmt::Display for Fault {
-    fn fmt<W: fmt::Write>(&self, f: &mut fmt::Formatter<W>) -> fmt::Result {
-        match *self {
-            Fault::UnknownCommand => write!(
-                f,
-                "unknown command; there are: read, shield, cabin, lay, items, show"
-            ),
-            Fault::Usage(form) => write!(f, "write it as: {form}"),
-            Fault::Hex(why) => write!(f, "{why}"),
-            Fault::NoMemory => write!(f, "no memory for this line"),
+// The command that a line is; none in a blank line or a comment.
+pub fn parse_line(heap: Global, line: &[u8]) -> Result<Option<Command<'_>>, Fault> {
+    let mut words = Words(line);
+    let command = match words.next() {
+        None | Some([b'#', ..]) => {
+            return Ok(None);
         }
-    }
+        Some(b"read") => parse_read(heap, words)?,
+        Some(b"lay") => parse_lay(heap, words)?,
+        Some(b"items") => parse_items(words).ok_or(Fault::Usage("items END"))?,
+        Some(b"show") => parse_show(words).ok_or(Fault::Usage("show END NAME"))?,
+        Some(word) => {
+            let side = parse_side(word).ok_or(Fault::UnknownCommand)?;
+            parse_set_up(side, words).ok_or(Fault::Usage("END slot BYTES, or END paged PAGES"))?
+        }
+    };
+    Ok(Some(command))
 }
 
-// The command that a line is.
-pub fn parse_line(heap: Global, line: &[u8]) -> Result<Command, Fault> {
-    let (word, rest) = split_word(line);
-    match word {
-        [] | [b'#', ..] => Ok(Command::Nothing),
-        b"read" => parse_read(heap, rest),
-        b"shield" => parse_set_up(Side::Shield, rest),
-        b"cabin" => parse_set_up(Side::Cabin, rest),
-        b"lay" => parse_lay(heap, rest),
-        b"items" => parse_items(rest),
-        b"show" => parse_show(heap, rest),
-        _ => Err(Fault::UnknownCommand),
-    }
+fn parse_side(word: &[u8]) -> Option<Side> {
+    [Side::Shield, Side::Cabin]
+        .into_iter()
+        .find(|side| side.word().as_bytes() == word)
 }
 
 // Hexadecimal digits, or a dash for no bytes.
 fn parse_hex(heap: Global, digits: &[u8]) -> Result<Vec<u8>, Fault> {
-    if let b"-" = digits {
-        return Ok(Vec::new(heap));
-    }
-    Ok(decode_hex(heap, digits)?)
-}
-
-fn parse_read(heap: Global, operands: &[u8]) -> Result<Command, Fault> {
-    let (digits, more) = split_word(operands);
-    if digits.is_empty() || !more.is_empty() {
-        return Err(Fault::Usage("read HEX, with - for no bytes"));
-    }
-    Ok(Command::Read(parse_hex(heap, digits)?))
-}
-
-fn parse_side(word: &[u8]) -> Option<Side> {
-    match word {
-        b"shield" => Some(Side::Shield),
-        b"cabin" => Some(Side::Cabin),
-        _ => None,
+    match digits {
+        b"-" => Ok(Vec::new(heap)),
+        _ => Ok(decode_hex(heap, digits)?),
     }
 }
 
-fn parse_set_up(side: Side, operands: &[u8]) -> Result<Command, Fault> {
-    let usage = Fault::Usage("END slot BYTES, or END paged PAGES");
-    let (word, rest) = split_word(operands);
-    let (size, more) = split_word(rest);
-    let kind = match word {
+fn parse_read<'a>(heap: Global, mut operands: Words<'a>) -> Result<Command<'a>, Fault> {
+    match (operands.next(), operands.end()) {
+        (Some(digits), Some(())) => Ok(Command::Read(parse_hex(heap, digits)?)),
+        _ => Err(Fault::Usage("read HEX, with - for no bytes")),
+    }
+}
+
+fn parse_set_up<'a>(side: Side, mut operands: Words<'a>) -> Option<Command<'a>> {
+    let kind = match operands.next()? {
         b"slot" => Kind::Slot,
         b"paged" => Kind::Paged,
         _ => {
-            return Err(usage);
+            return None;
         }
     };
-    match number(size) {
-        Some(size) if more.is_empty() => Ok(Command::SetUp {
-            side,
-            kind,
-            size: size as usize,
-        }),
-        _ => Err(usage),
-    }
+    let size = number(operands.next()?)? as usize;
+    operands.end()?;
+    Some(Command::SetUp { side, kind, size })
 }
 
-fn parse_lay(heap: Global, operands: &[u8]) -> Result<Command, Fault> {
+fn parse_lay<'a>(heap: Global, mut operands: Words<'a>) -> Result<Command<'a>, Fault> {
     let usage = Fault::Usage("lay END NAME HEX, or lay END NAME fill COUNT");
-    let (end, rest) = split_word(operands);
-    let (name, rest) = split_word(rest);
-    let (what, rest) = split_word(rest);
-    let Some(side) = parse_side(end) else {
-        return Err(usage);
-    };
-    if what.is_empty() {
-        return Err(usage);
-    }
-    let bytes = match what {
-        b"fill" => fill(heap, rest)?,
-        _ => {
-            if !rest.is_empty() {
-                return Err(usage);
-            }
-            parse_hex(heap, what)?
+    let side = operands.next().and_then(parse_side).ok_or(usage)?;
+    let name = operands.next().ok_or(usage)?;
+    let bytes = match operands.next().ok_or(usage)? {
+        b"fill" => parse_fill(heap, operands)?,
+        digits => {
+            operands.end().ok_or(usage)?;
+            parse_hex(heap, digits)?
         }
     };
-    let name = Vec::from_slice(heap, name)?;
     Ok(Command::Lay { side, name, bytes })
 }
 
-// As many bytes as the count says: 0 to 250, over and over.
-fn fill(heap: Global, operands: &[u8]) -> Result<Vec<u8>, Fault> {
-    let (word, more) = split_word(operands);
-    let count = match number(word) {
-        Some(count) if more.is_empty() && count <= FILL_MAX => count,
-        _ => {
-            return Err(Fault::Usage("lay END NAME fill COUNT, at most 16777216"));
-        }
-    };
-    let mut bytes = Vec::new(heap);
-    for i in 0..count {
-        bytes.push((i % 251) as u8)?;
-    }
-    Ok(bytes)
-}
-
-fn parse_items(operands: &[u8]) -> Result<Command, Fault> {
-    let (end, more) = split_word(operands);
-    match parse_side(end) {
-        Some(side) if more.is_empty() => Ok(Command::Items(side)),
-        _ => Err(Fault::Usage("items END")),
+// As many bytes as the count says.
+fn parse_fill(heap: Global, mut operands: Words<'_>) -> Result<Vec<u8>, Fault> {
+    let count = operands
+        .next()
+        .and_then(number)
+        .filter(|count| *count <= FILL_MAX);
+    match (count, operands.end()) {
+        (Some(count), Some(())) => Ok(fill_bytes(heap, count as usize)?),
+        _ => Err(Fault::Usage("lay END NAME fill COUNT, at most 16777216")),
     }
 }
 
-fn parse_show(heap: Global, operands: &[u8]) -> Result<Command, Fault> {
-    let (end, rest) = split_word(operands);
-    let (name, more) = split_word(rest);
-    match parse_side(end) {
-        Some(side) if more.is_empty() && !name.is_empty() => Ok(Command::Show {
-            side,
-            name: Vec::from_slice(heap, name)?,
-        }),
-        _ => Err(Fault::Usage("show END NAME")),
-    }
+fn parse_items<'a>(mut operands: Words<'a>) -> Option<Command<'a>> {
+    let side = parse_side(operands.next()?)?;
+    operands.end()?;
+    Some(Command::Items(side))
+}
+
+fn parse_show<'a>(mut operands: Words<'a>) -> Option<Command<'a>> {
+    let side = parse_side(operands.next()?)?;
+    let name = operands.next()?;
+    operands.end()?;
+    Some(Command::Show { side, name })
 }

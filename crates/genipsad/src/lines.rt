@@ -1,62 +1,74 @@
 // Lines of a script: their words, and how they are echoed.
+ghost use Rattle.std.specs.Prelude.{◌≤◌, length};
+ghost use Rattle.std.specs.Iterator.{at_most};
+
 use console::shown::Shown;
 use std::{fmt, io};
 
 fn is_space(b: u8) -> bool {
-    b == b' ' || b == b'\t' || b == b'\r'
+    matches!(b, b' ' | b'\t' | b'\r')
 }
 
 // The bytes from the first one that is not a space on.
-fn after_spaces(text: &[u8]) -> &[u8] {
-    for (i, b) in text.iter().enumerate() {
-        if !is_space(*b) {
-            return &text[i..];
-        }
-    }
-    &text[text.len()..]
+fn after_spaces(text: &[u8]) -> &[u8]
+    ensures { length result.now ≤ length text.now }
+{
+    let start = text.iter().position(|b| !is_space(*b));
+    &text[start.unwrap_or(text.len())..]
 }
 
-// The first word, and what stands after it.
-pub fn split_word(text: &[u8]) -> (&[u8], &[u8]) {
-    let text = after_spaces(text);
-    for (i, b) in text.iter().enumerate() {
-        if is_space(*b) {
-            return (&text[0..i], after_spaces(&text[i..]));
-        }
+// The words of a line that are still to come.
+#[derive(Clone, Copy, Debug)]
+pub struct Words<'a>(pub &'a [u8]);
+
+impl<'a> Iterator for Words<'a> {
+    type Item = &'a [u8];
+
+    ghost remaining = { λ s. at_most (length s.0.now) };
+
+    fn next(&mut self) -> Option<&'a [u8]> {
+        let text = after_spaces(self.0);
+        let (_, others) = text.split_first()?;
+        let len = others
+            .iter()
+            .position(|b| is_space(*b))
+            .unwrap_or(others.len());
+        let end = 1 + len;
+        self.0 = &text[end..];
+        Some(&text[..end])
     }
-    (text, &text[text.len()..])
+}
+
+impl Words<'_> {
+    // None where a word is left.
+    pub fn end(mut self) -> Option<()> {
+        self.next().is_none().then_some(())
+    }
 }
 
 // Prints a line as it was given; of a long one only the front.
 pub fn echo(rt: &HostRuntime, line: &[u8]) -> io::Result<()> {
     let line = after_spaces(line);
-    if line.len() > 240 {
-        let front = Text(&line[0..240]);
-        let len = line.len();
-        return println!(rt; "> {front}.. ({len} characters)");
+    match line.get(..240) {
+        Some(front) if front.len() < line.len() => {
+            println!(rt; "> {}.. ({} characters)", Text(front), line.len())
+        }
+        _ => println!(rt; "> {}", Text(line)),
     }
-    let text = Text(line);
-    println!(rt; "> {text}")
 }
 
-// A line as text: spaces stay, other bytes that do not show as a character are \xNN.
+// A line as text: spaces stay, carriage returns go, other bytes that do not show as a character are \xNN.
 #[derive(Clone, Copy)]
 struct Text<'a>(&'a [u8]);
 
 impl fmt::Display for Text<'_> {
     fn fmt<W: fmt::Write>(&self, f: &mut fmt::Formatter<W>) -> fmt::Result {
-        let mut rest = self.0;
-        for _ in 0..self.0.len() {
-            let [b, after @ ..] = rest else {
-                return Ok(());
-            };
-            if *b == b' ' {
-                write!(f, " ")?;
-            } else if *b != b'\r' {
-                let one = Shown(&rest[0..1]);
-                write!(f, "{one}")?;
+        for b in self.0 {
+            match *b {
+                b' ' => write!(f, " ")?,
+                b'\r' => {}
+                b => write!(f, "{}", Shown(&[b]))?,
             }
-            rest = after;
         }
         Ok(())
     }
