@@ -4,17 +4,17 @@ ghost use Rattle.console.specs.declared.hex.HexFault.TheVariants.{NoMemory};
 ghost use Rattle.console.specs.Hex.{Decodes, byte_value, digit_value};
 
 use std::alloc::{AllocError, AllocFailed, Global};
-use std::error::Error;
-use std::fmt;
+use thiserror::Error;
 
 // Why a text is not bytes in hexadecimal digits.
-#[derive(Clone, Copy, PartialEq, Eq, Debug)]
+#[derive(Clone, Copy, PartialEq, Eq, Debug, Error)]
 pub enum HexFault {
-    // the number of digits is odd
+    #[error("odd number of hex digits")]
     OddLength,
-    // one of the two characters from this place on, counted from 0, is no digit
+    // the place of the first of the two characters, counted from 0
+    #[error("no hex digit at or after character {} of the hex", .0.saturating_add(1))]
     NotADigit(usize),
-    // no memory for the bytes
+    #[error("no memory for the bytes")]
     NoMemory,
 }
 
@@ -34,24 +34,6 @@ impl<T: Drop> From<AllocFailed<T>> for HexFault {
         HexFault::NoMemory
     }
 }
-
-impl fmt::Display for HexFault {
-    fn fmt<W: fmt::Write>(&self, f: &mut fmt::Formatter<W>) -> fmt::Result {
-        match *self {
-            HexFault::OddLength => write!(f, "odd number of hex digits"),
-            HexFault::NotADigit(place) => {
-                write!(
-                    f,
-                    "no hex digit at or after character {} of the hex",
-                    place.saturating_add(1)
-                )
-            }
-            HexFault::NoMemory => write!(f, "no memory for the bytes"),
-        }
-    }
-}
-
-impl Error for HexFault {}
 
 // The value of a hexadecimal digit, in either case.
 pub fn hex_digit(digit: u8) -> Option<u8>
