@@ -70,12 +70,11 @@ impl End {
     }
 
     // Prints name, length and FNV-1a of each item, in filing order; answers how many there are.
-    pub fn items(&self, rt: &HostRuntime) -> io::Result<usize> {
+    pub fn items(&self, rt: &HostRuntime) -> Result<usize, Stop> {
         for (item, name) in self.names.iter().enumerate() {
-            if let Ok(size) = self.store.size(item) {
-                let hash = self.store.hash(item, size);
-                println!(rt; "  {} {size} {hash:08x}", Shown(name.text()))?;
-            }
+            let size = self.store.size(item)?;
+            let hash = self.store.hash(item, size)?;
+            println!(rt; "  {} {size} {hash:08x}", Shown(name.text()))?;
         }
         Ok(self.names.len())
     }
@@ -84,11 +83,12 @@ impl End {
     pub fn show(&self, rt: &HostRuntime, name: &[u8]) -> Result<usize, Stop> {
         let item = self.store.find(name).ok_or(Refusal::NoSuchItem)?;
         let size = self.store.size(item)?;
-        self.store
-            .fold::<32, _, _>(item, size, Ok(()), |printed: io::Result<()>, part| {
-                printed?;
-                println!(rt; "  {}", HexDigits(part))
-            })?;
+        let print = |printed: io::Result<()>, part: &[u8]| {
+            printed?;
+            println!(rt; "  {}", HexDigits(part))
+        };
+        let printed = self.store.fold::<32, _, _>(item, size, Ok(()), print)?;
+        printed?;
         Ok(size)
     }
 }

@@ -63,7 +63,7 @@ impl AnyStore {
         size: usize,
         start: A,
         mut step: F,
-    ) -> A
+    ) -> Result<A, Refusal>
         requires some { 0 < N }
         requires fits { N < 2 ^ 63 }
         requires can { F.IsAlwaysCallable step }
@@ -71,16 +71,14 @@ impl AnyStore {
         let mut so_far = start;
         for from in (0..size).step_by(N) {
             let mut buf = [0u8; N];
-            let Ok(count) = self.read(item, from, &mut buf) else {
-                return so_far;
-            };
+            let count = self.read(item, from, &mut buf)?;
             so_far = step(so_far, buf.get(..count).unwrap_or(&[]));
         }
-        so_far
+        Ok(so_far)
     }
 
     // FNV-1a of an item's bytes, in 32 bits.
-    pub fn hash(&self, item: usize, size: usize) -> u32 {
+    pub fn hash(&self, item: usize, size: usize) -> Result<u32, Refusal> {
         self.fold::<512, _, _>(item, size, 2_166_136_261, fnv1a)
     }
 }
