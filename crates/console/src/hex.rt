@@ -18,7 +18,7 @@ pub enum HexFault {
     NoMemory,
 }
 
-// By hand: a derived `From` states no clause, and without one the proof of `decode_hex` does not close.
+// By hand, with `from_gives`: tried without it, as a derive writes them, and the proof of `decode_hex` did not close.
 impl From<AllocError> for HexFault {
     ghost from_gives = { λ _ r. r ≡ NoMemory };
 
