@@ -80,14 +80,16 @@ fn parse_read<'a>(heap: Global, mut operands: Words<'a>) -> Result<Command<'a>, 
     }
 }
 
+fn parse_kind(word: &[u8]) -> Option<Kind> {
+    match word {
+        b"slot" => Some(Kind::Slot),
+        b"paged" => Some(Kind::Paged),
+        _ => None,
+    }
+}
+
 fn parse_set_up<'a>(side: Side, mut operands: Words<'a>) -> Option<Command<'a>> {
-    let kind = match operands.next()? {
-        b"slot" => Kind::Slot,
-        b"paged" => Kind::Paged,
-        _ => {
-            return None;
-        }
-    };
+    let kind = parse_kind(operands.next()?)?;
     let size = number(operands.next()?)? as usize;
     operands.end()?;
     Some(Command::SetUp { side, kind, size })

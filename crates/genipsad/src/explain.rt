@@ -24,6 +24,7 @@ pub fn explain_datagram(rt: &HostRuntime, bytes: &[u8]) -> io::Result<()> {
 }
 
 fn write_again(rt: &HostRuntime, message: Message<'_>, bytes: &[u8]) -> io::Result<()> {
+    // a rule of the project: writing takes no heap, and answers how much of a lent buffer it filled
     let mut work = [0u8; 1472];
     match write(message, &mut work) {
         Ok(end) if work.get(..end) == Some(bytes) => {

@@ -70,6 +70,7 @@ impl AnyStore {
     {
         let mut so_far = start;
         for from in (0..size).step_by(N) {
+            // a rule of the project: reading takes no heap, and answers how much of a lent buffer it filled
             let mut buf = [0u8; N];
             let count = self.read(item, from, &mut buf)?;
             so_far = step(so_far, buf.get(..count).unwrap_or(&[]));

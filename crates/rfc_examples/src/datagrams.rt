@@ -71,6 +71,7 @@ fn judge_datagram(
 
 // Whether the message is written to the bytes that it was read from.
 fn judge_writing(rt: &HostRuntime, message: Message<'_>, datagram: &[u8]) -> io::Result<bool> {
+    // a rule of the project: writing takes no heap, and answers how much of a lent buffer it filled
     let mut work = [0u8; 1472];
     let end = write(message, &mut work);
     let is_same = end.is_ok_and(|end| work.get(..end) == Some(datagram));

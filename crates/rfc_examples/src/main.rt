@@ -19,7 +19,7 @@ use example::{Case, Example};
 use std::io;
 
 // How many examples were run, and how many of them differ.
-#[derive(Clone, Copy)]
+#[derive(Clone, Copy, Default, Debug)]
 struct Tally {
     examples: u32,
     differ: u32,
@@ -44,10 +44,7 @@ impl Tally {
 }
 
 fn main(rt: HostRuntime) -> io::Result<()> {
-    let mut tally = Tally {
-        examples: 0,
-        differ: 0,
-    };
+    let mut tally = Tally::default();
     tally.run(&rt, &rfc1350::EXAMPLES)?;
     tally.run(&rt, &rfc2347::EXAMPLES)?;
     tally.run(&rt, &rfc2348::EXAMPLES)?;
