@@ -5,7 +5,7 @@ use Rattle.terms.specs.declared.refusal.Refusal.{Refusal}
 use Rattle.terms.specs.declared.refusal.Refusal.TheVariants.{NotTaken, DraftState}
 use Rattle.store.specs.Meaning.{Item, Draft, draft_at, open_refusal, name_refusal, file_refusal, Struck}
 use Rattle.store.specs.Laying.{Settled, Rejected, ItemLaid}
-use Rattle.store.proofs.Drafts.{set_absent, held, discarded}
+use Rattle.store.proofs.HostDraft.{set_absent, held, discarded}
 
 -- Draft 4 of a store s was opened, which gave a.
 module _ {S : Type 0} (items : S → List Item) (drafts : S → List Draft) (opens : S → Bool) (takes : S → ℕ → List ℕ → Bool) (s a : S)

@@ -1,5 +1,5 @@
 pub mod Counts
-pub mod Drafts
+pub mod HostDraft
 pub mod Layings
 pub mod Parts
 pub mod Pieces

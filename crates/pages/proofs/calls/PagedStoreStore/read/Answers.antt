@@ -2,7 +2,7 @@ use Rattle.std.proofs.Common.{◌≡◌, ℕ, ◌-◌, ◌≤◌, min, List, ◌
 use Rattle.std.proofs.lemmas.List.{length-take}
 use Rattle.std.proofs.lemmas.Bool.Decides.{nat_tests}
 use Rattle.pages.specs.Layout.{filed_len, texts, flat}
-use Rattle.pages.specs.declared.parts.Owner.TheVariants.{Item}
+use Rattle.store.specs.declared.owner.Owner.TheVariants.{Item}
 use Rattle.pages.proofs.Texts.{length-flat}
 use Rattle.pages.proofs.Frame.{bytes_is, bytes_length}
 use Rattle.pages.proofs.Copies.{read_is}
@@ -11,7 +11,7 @@ use Rattle.pages.proofs.calls.PagedStoreStore.read.Goals as goal
 pub returns : goal.returns
 returns c =
     let s = c.args.self.now in
-    let ps = vec_items s.pages in
+    let ps = vec_items s.pages.taken in
     let fs = vec_items s.entries in
     let i = c.args.item in
     let from = c.args.from in

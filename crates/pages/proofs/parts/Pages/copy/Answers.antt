@@ -1,48 +1,53 @@
-use Rattle.std.proofs.Common.{◌≡◌, ◌+◌, ◌-◌, ◌<◌, ◌≤◌, min, [], ◌++◌, length, take, drop, sym, ap, ◌∙◌, arith}
+use Rattle.std.proofs.Common.{◌≡◌, ◌+◌, ◌-◌, ◌<◌, ◌≤◌, min, [], ◌++◌, length, get_or, take, drop, vec_items, rules, sym, ap, ◌∙◌, arith}
 use borrow.Rule.Slice.PartMut.{put_mid}
 use Rattle.std.proofs.lemmas.List.{take_all, drop_all, length-take, length-drop}
 use Rattle.store.specs.Meaning.{part}
-use Rattle.pages.specs.Layout.{texts, flat}
+use Rattle.pages.specs.Layout.{same, texts, flat}
+use Rattle.pages.proofs.Texts.{same_sym}
 use Rattle.pages.proofs.Copies.{copied, flat_next, texts_next}
-use Rattle.pages.proofs.runs.copy.Goals as goal
-use Rattle.pages.proofs.runs.copy.Goals.{then-is, else-is}
+use Rattle.pages.proofs.parts.Pages.copy.Goals as goal
+use Rattle.pages.proofs.parts.Pages.copy.Goals.{then-eq, else-eq}
 
-pub loop-i-init : goal.loop-i-init
-loop-i-init c =
+pub loop-page-init : goal.loop-page-init
+loop-page-init c =
     let none : part [] c.args.from (length c.args.buf.now) ≡ [] = ap (take (length c.args.buf.now)) (drop_all c.args.from [] (omega arith)) ∙ take_all (length c.args.buf.now) [] (omega arith) in
     (ap (λ x. x ++ c.args.buf.now) (sym none), ap length (sym none), omega arith, omega arith)
 
-pub loop-i-preserved : goal.loop-i-preserved
-loop-i-preserved c =
-    let ps = c.args.pages.now.items in
-    let i = c.loop-i.i in
-    let p = c.index.result.now in
+pub loop-page-preserved : goal.loop-page-preserved
+loop-page-preserved c =
+    let ps = (vec_items c.args.self.now.taken) in
+    let i = c.loop-page.page-index in
+    let p = c.page-item.result in
     let was = c.args.buf.now in
     let from = c.args.from in
-    let lt : i < length ps = omega (arith, c.args.pages.now.ok.0) in
-    let inv = c.loop-i.invariant in
-    let same-long : length c.loop-i.buf ≡ length was = c.loop-i.auto.buf in
-    let done = c.loop-i.done in
-    elim c.if-is.branch [
-      | then-is w ↦
+    let is = c.deref-page-items.ensures.value in
+    let lt : i < length ps = omega (arith, ap length is) in
+    let at : p ≡ get_or ps i p = c.page-item.is ∙ ap (λ qs. get_or qs i p) is in
+    let told : c.eq.result ≡ same p.owner c.args.who = search rules in
+    let told' : c.eq.result ≡ same c.args.who p.owner = told ∙ same_sym p.owner c.args.who in
+    let inv = c.loop-page.invariant in
+    let same-long : length c.loop-page.buf ≡ length was = c.loop-page.auto.buf in
+    let done = c.loop-page.done in
+    elim c.if-eq.branch [
+      | then-eq w ↦
           let m = w.min-m.result in
           let s = w.min-s.result in
-          let buf = c.loop-i.buf in
+          let buf = c.loop-page.buf in
           let got = w.give.new.buf in
           let cut : (done + m) - done ≡ m = omega arith in
           let room = w.min-m.ensures ∙ ap (λ k. min (64 - s) (k - done)) same-long in
           let few : m ≤ length was - done = omega arith in
           let long : length (take ((done + m) - done) (drop done buf)) ≡ m = simp (length-take, length-drop) (omega arith) in
-          let next = flat_next c.args.who ps i p lt c.index.ensures (sym w.if-is.ensures) in
-          let h = copied (flat (texts c.args.who (take i ps))) p.text buf was got from done c.loop-i.skip s m p.whole inv.0 inv.1 inv.2 w.min-s.ensures room (w.give.ensures ∙ ap (λ k. take k (drop s p.text)) long) in
+          let next = flat_next c.args.who ps i p lt at (sym told' ∙ w.if-eq.true) in
+          let h = copied (flat (texts c.args.who (take i ps))) p.text buf was got from done c.loop-page.skip s m p.whole inv.0 inv.1 inv.2 w.min-s.ensures room (w.give.ensures ∙ ap (λ k. take k (drop s p.text)) long) in
           let put = w.buf-is ∙ ap (λ k. put_mid done k buf got) cut ∙ h.0 in (
             put ∙ ap (λ x. part x from (length was) ++ drop (done + m) was) (sym next) ∙ ap (λ k. part (flat (texts c.args.who (take (i + 1) ps))) from (length was) ++ drop k was) (sym w.done-is),
             w.done-is ∙ h.1 ∙ ap (λ x. length (part x from (length was))) (sym next),
             w.skip-is ∙ h.2 ∙ ap (λ x. from - length x) (sym next),
             omega (arith, w.done-is),
           )
-      | else-is w ↦
-          let next = ap flat (texts_next c.args.who ps i p lt c.index.ensures (sym w.if-is.ensures)) in (
+      | else-eq w ↦
+          let next = ap flat (texts_next c.args.who ps i p lt at (sym told' ∙ w.if-eq.false)) in (
             w.buf-is ∙ inv.0 ∙ ap (λ x. part x from (length was) ++ drop done was) (sym next) ∙ ap (λ k. part (flat (texts c.args.who (take (i + 1) ps))) from (length was) ++ drop k was) (sym w.done-is),
             w.done-is ∙ inv.1 ∙ ap (λ x. length (part x from (length was))) (sym next),
             w.skip-is ∙ inv.2 ∙ ap (λ x. from - length x) (sym next),
@@ -52,7 +57,7 @@ loop-i-preserved c =
 
 pub returns : goal.returns
 returns c =
-    let ps = c.args.pages.now.items in
-    let all = take_all c.loop-i.i ps (omega (arith, c.args.pages.now.ok.0)) in
+    let ps = (vec_items c.args.self.now.taken) in
+    let all = take_all c.loop-page.page-index ps (omega (arith, ap length c.deref-page-items.ensures.value)) in
     let got = ap (λ x. part (flat (texts c.args.who x)) c.args.from (length c.args.buf.now)) all in
-    c.loop-i.invariant.0 ∙ ap (λ k. part (flat (texts c.args.who (take c.loop-i.i ps))) c.args.from (length c.args.buf.now) ++ drop k c.args.buf.now) c.loop-i.invariant.1 ∙ ap (λ x. x ++ drop (length x) c.args.buf.now) got
+    c.loop-page.invariant.0 ∙ ap (λ k. part (flat (texts c.args.who (take c.loop-page.page-index ps))) c.args.from (length c.args.buf.now) ++ drop k c.args.buf.now) c.loop-page.invariant.1 ∙ ap (λ x. x ++ drop (length x) c.args.buf.now) got
