@@ -143,9 +143,6 @@ bytes_is ps fs i = bytes_from ps (λ k. k) fs i
 pub bytes_length : (ps : List Page) (fs : List (Entry ℕ)) (i : ℕ) → Filings ps fs → length (get_or (items_of ps fs) i no_item).bytes ≡ filed_len fs i
 bytes_length ps fs i h = ap length (bytes_is ps fs i) ∙ length-content (Item i) ps (filed_len fs i) (h i)
 
-pub item_is : (ps : List Page) (fs : List (Entry ℕ)) (i : ℕ) (x : Entry ℕ) → i < length fs → x ≡ get_or fs i x → get_or (items_of ps fs) i no_item ≡ item_of ps i x
-item_is ps fs i x lt is = get_or-imap (item_of ps) fs i x no_item lt ∙ ap (item_of ps i) (sym is)
-
 -- entries have the names of their items
 names_from : (ps : List Page) (g : ℕ → ℕ) (fs : List (Entry ℕ)) → map (λ f. name_text f.name) fs ≡ map (λ x. x.name) (imap (λ k. item_of ps (g k)) fs)
 names_from ps g [] = refl

@@ -37,14 +37,13 @@ impl Store for PagedStore {
 
     fn read(&self, item: usize, from: usize, buf: &mut [u8]) -> Result<usize, Refusal> {
         let len = self.size(item)?;
-        if from > len {
-            return Err(Refusal::OutOfRange);
-        }
-        let n = (len - from).min(buf.len());
-        self.pages.copy(Owner::Item(item), from, &mut buf[0..n]);
+        let left = len.checked_sub(from).ok_or(Refusal::OutOfRange)?;
+        let n = left.min(buf.len());
+        self.pages.copy(Owner::Item(item), from, &mut buf[..n]);
         Ok(n)
     }
 
+    // This and the calls below each say that the limit stays: an invariant is no plainer, since it speaks of one value of the store.
     fn open(&mut self, draft: usize) -> Result<(), Refusal>
         ensures meaning { Opened page_items page_drafts page_opens self.old self.new draft result }
         ensures limit { self.new.pages.limit ≡ self.old.pages.limit }

@@ -69,6 +69,7 @@ impl Pages {
     {
         let mut at = len;
         let mut rest = piece;
+        // `chunks` is no plainer: the first part ends where a page does, so it would need a case of its own.
         while !rest.is_empty() {
             let room = PAGE_SIZE - at % PAGE_SIZE;
             let (part, more) = rest.split_at(room.min(rest.len()));

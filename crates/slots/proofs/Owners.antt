@@ -1,15 +1,12 @@
 -- What stays true as a slot changes hands. Assumes nothing.
-use Rattle.std.proofs.Common.{◌≡◌, ℕ, zero, suc, ◌+◌, ◌<◌, Bool, true, false, cond, ltb, ◌≢◌, List, [], ◌∷◌, ◌++◌, map, length, get_or, set, is_some, is_none, Some, None, MatchOption, Ok, Err, count_by, Option, Result, sym, refl, ap, ◌∙◌, subst, ⊎_elim, arith, length-set}
+use Rattle.std.proofs.Common.{◌≡◌, ℕ, zero, suc, ◌+◌, ◌<◌, Bool, true, false, cond, ltb, ◌≢◌, List, [], ◌∷◌, ◌++◌, map, length, get_or, set, is_some, is_none, Some, None, MatchOption, count_by, Option, sym, refl, ap, ◌∙◌, subst, ⊎_elim, arith, length-set}
 use Rattle.std.specs.Option.{option_map}
 use Rattle.std.proofs.lemmas.List.{get_or-set_same, get_or-set_other, get_or_push, get_or_append_left, length_push, length-map}
-use Rattle.std.proofs.lemmas.List.Sums.{sum_by-cons, get_or-le-sum_by, count_by-le-length}
+use Rattle.std.proofs.lemmas.List.Sums.{sum_by-cons, count_by-le-length}
 use Rattle.std.proofs.lemmas.List.Quantifiers.{position-Some}
 use Rattle.std.proofs.lemmas.Bool.{cases_eq, lt-ltb, le-ltb}
 use Rattle.std.specs.List.{position as first_place}
-use Rattle.terms.specs.declared.refusal.Refusal.{Refusal}
-use Rattle.terms.specs.declared.refusal.Refusal.TheVariants.{OutOfRange, DraftState}
-use Rattle.store.specs.Meaning.{Answers, strike_refusal, room_for}
-use Rattle.store.specs.Drafts.{held_refusal}
+use Rattle.store.specs.Meaning.{room_for}
 use Rattle.store.proofs.Positions.{first_next}
 use Rattle.store.proofs.Counts.{count_set, open_mapped}
 use Rattle.slots.specs.Layout.{content, drafts_of, Held, Filings, Begun, Tally, item_of, items_of}
@@ -30,13 +27,6 @@ draft_is mem size ds d o is = draft_of mem size ds d ∙ ap (option_map (content
 -- whether it is open
 pub open_is : (mem : List ℕ) (size : ℕ) (ds : List (Option Extent)) (d : ℕ) → is_some (get_or (drafts_of mem size ds) d None) ≡ is_some (get_or ds d None)
 open_is mem size ds d = ap is_some (draft_of mem size ds d) ∙ open_mapped (content mem size) (get_or ds d None)
-
--- what is kept of an open draft, by what the store means and by whose the slots are
-pub told_extent : (mem : List ℕ) (size : ℕ) (owners : List (Option Owner)) (ds : List (Option Extent)) (d : ℕ) (r : Result Extent Refusal) → Begun size owners ds → Answers r (held_refusal ds d) (Unit {0}) (λ e. (d < 5) × (get_or ds d None ≡ Some e)) → Answers r (strike_refusal (drafts_of mem size ds) d) (Unit {0}) (λ e. (d < 5) × (get_or ds d None ≡ Some e) × Held size owners (Draft d) e)
-told_extent mem size owners ds d (Ok e) begun h =
-    (ap (λ b. cond (ltb 4 d) (Some OutOfRange) (cond b None (Some DraftState))) (open_is mem size ds d) ∙ h.0, (h.1.0, h.1.1, begun d e h.1.1))
-told_extent mem size owners ds d (Err e) begun h =
-    (ap (λ b. cond (ltb 4 d) (Some OutOfRange) (cond b None (Some DraftState))) (open_is mem size ds d) ∙ h.0, tt)
 
 -- how many drafts are open
 count_drafts : (f : Extent → List ℕ) (ds : List (Option Extent)) → count_by is_some (map (option_map f) ds) ≡ count_by is_some ds
@@ -135,9 +125,3 @@ filings_push size owners fs f own h i z lt =
     let earlier : i < length fs = omega (arith, length_push fs f) in
     rw (get_or_append_left fs (f ∷ []) z i earlier) (h i z earlier))
     (cases_eq i (length fs))
-
--- while a draft is open, fewer than 16 items are filed
-pub few_filed : (owners : List (Option Owner)) (fs : List (Entry Extent)) (ds : List (Option Extent)) (d : ℕ) (e : Extent) → length owners ≡ 16 → d < length ds → get_or ds d None ≡ Some e → Tally owners fs ds → length fs < 16
-few_filed owners fs ds d e long in-d is t =
-    let one = rw is at (get_or-le-sum_by (λ o. cond (is_some o) 1 0) ds d None in-d) in
-    omega (arith, count_by-le-length is_some owners)

@@ -1,15 +1,12 @@
 -- Where a slot's bytes lie. Assumes nothing.
-use Rattle.std.proofs.Common.{◌≡◌, ℕ, zero, suc, ◌+◌, ◌*◌, ◌<◌, ◌≤◌, List, [], ◌∷◌, ◌++◌, map, length, get_or, take, drop, set, Option, sym, refl, ap, ◌∙◌, subst, ⊎_elim, mul-le-mul_right, add-mul, one-mul, arith}
-use Rattle.std.proofs.lemmas.List.{length-take, drop-take, drop-append-le, get_or-map}
+use Rattle.std.proofs.Common.{◌≡◌, ℕ, zero, suc, ◌+◌, ◌*◌, ◌<◌, ◌≤◌, List, [], ◌∷◌, ◌++◌, map, length, get_or, take, drop, set, sym, refl, ap, ◌∙◌, ⊎_elim, mul-le-mul_right, add-mul, one-mul, arith}
+use Rattle.std.proofs.lemmas.List.{length-take, drop-take, drop-append-le}
 use Rattle.std.proofs.lemmas.Slice.{take-put_mid, take-put_mid_below, drop-put_mid}
 use Rattle.std.proofs.lemmas.Bool.{cases_lt}
 use Rattle.terms.specs.Named.{name_text}
-use Rattle.store.specs.Meaning.{no_item}
 use Rattle.store.specs.Memory.{overwritten}
 use Rattle.store.proofs.Parts.{length-overwritten}
-use Rattle.slots.specs.Layout.{item_of, items_of, content, Held, Filings}
-use Rattle.store.specs.declared.owner.Owner.{Owner}
-use Rattle.store.specs.declared.owner.Owner.TheVariants.{Item}
+use Rattle.slots.specs.Layout.{items_of, content}
 use Rattle.slots.specs.declared.parts.Extent.{Extent}
 use Rattle.store.specs.declared.entry.Entry.{Entry}
 
@@ -18,13 +15,6 @@ pub before : (s t size l : ℕ) → s < t → l ≤ size → s * size + l ≤ t 
 before s t size l lt le =
     let rows : (s + 1) * size ≤ t * size = mul-le-mul_right {m = s + 1} {n = t} size (omega arith) in
     omega (arith, add-mul s 1 size, one-mul size)
-
--- the extent of an item that was read
-pub filed_held : (size : ℕ) (owners : List (Option Owner)) (fs : List (Entry Extent)) (i : ℕ) (x : Entry Extent) → i < length fs → x ≡ get_or fs i x → Filings size owners fs → Held size owners (Item i) x.kept
-filed_held size owners fs i x lt is h = let P : Entry Extent → Type 0 = λ f. Held size owners (Item i) f.kept in subst P (sym is) (h i x lt)
-
-pub item_is : (mem : List ℕ) (size : ℕ) (fs : List (Entry Extent)) (i : ℕ) (x : Entry Extent) → i < length fs → x ≡ get_or fs i x → get_or (items_of mem size fs) i no_item ≡ item_of mem size x
-item_is mem size fs i x lt is = get_or-map (item_of mem size) fs i x no_item lt ∙ ap (item_of mem size) (sym is)
 
 -- entries have the names of their items
 pub names_are : (mem : List ℕ) (size : ℕ) (fs : List (Entry Extent)) → map (λ f. name_text f.name) fs ≡ map (λ x. x.name) (items_of mem size fs)

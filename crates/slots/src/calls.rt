@@ -65,14 +65,13 @@ impl Store for SlotStore {
 
     fn read(&self, item: usize, from: usize, buf: &mut [u8]) -> Result<usize, Refusal> {
         let bytes = self.bytes(item)?;
-        if from > bytes.len() {
-            return Err(Refusal::OutOfRange);
-        }
-        let n = (bytes.len() - from).min(buf.len());
-        buf[0..n].copy_from_slice(&bytes[from..from + n]);
+        let left = bytes.get(from..).ok_or(Refusal::OutOfRange)?;
+        let n = left.len().min(buf.len());
+        buf[..n].copy_from_slice(&left[..n]);
         Ok(n)
     }
 
+    // This and the calls below each say that the size of a slot stays: an invariant is no plainer, since it speaks of one value of the store.
     fn open(&mut self, draft: usize) -> Result<(), Refusal>
         ensures meaning { Opened slot_items slot_drafts slot_opens self.old self.new draft result }
         ensures size { self.new.size ≡ self.old.size }

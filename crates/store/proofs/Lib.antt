@@ -1,7 +1,5 @@
 pub mod Counts
 pub mod HostDraft
-pub mod Layings
 pub mod Parts
 pub mod Pieces
 pub mod Positions
-pub mod Standings

@@ -1,10 +1,10 @@
 -- One piece of a text after another goes to draft 4. Assumes nothing.
-use Rattle.std.proofs.Common.{◌≡◌, ℕ, ◌≤◌, min, Bool, true, false, cond, ltb, List, [], ◌∷◌, ◌++◌, length, take, set, is_some, Some, None, unwrap_or, sym, refl, ap, ◌∙◌, arith}
-use Rattle.std.proofs.lemmas.List.{set-set, take_all, take_at, drop_at, append-nil, append_assoc, length-append}
+use Rattle.std.proofs.Common.{◌≡◌, ℕ, ◌≤◌, min, Bool, true, false, cond, ltb, List, [], ◌∷◌, ◌++◌, length, take, set, is_some, Some, None, sym, refl, ap, ◌∙◌, arith}
+use Rattle.std.proofs.lemmas.List.{take_all, take_at, drop_at, append-nil, length-append}
 use Rattle.std.proofs.lemmas.Bool.Decides.{nat_tests}
 use Rattle.terms.specs.declared.refusal.Refusal.{Refusal}
 use Rattle.terms.specs.declared.refusal.Refusal.TheVariants.{OutOfRange, NotTaken, DraftState}
-use Rattle.store.specs.Meaning.{Item, Draft, draft_at, part, append_refusal, Longer}
+use Rattle.store.specs.Meaning.{Item, Draft, draft_at, part, append_refusal}
 use Rattle.store.specs.Laying.{Rejected}
 use Rattle.store.proofs.HostDraft.{held}
 
@@ -23,18 +23,6 @@ module _ {S : Type 0} (items : S → List Item) (drafts : S → List Draft) (tak
     (five : length (drafts s) ≡ 5) (whole : text ≡ done ++ left) (next : left ≡ piece ++ more) (long : length piece ≡ min 1468 (length left)) (same : items u ≡ items s) (begun : drafts u ≡ set (drafts s) 4 (Some done)) where
   there : draft_at (drafts u) 4 ≡ Some done
   there = held (drafts s) (drafts u) done five begun
-
-  pub added : (v : S) → Longer items drafts u v 4 piece → (items v ≡ items s) × (drafts v ≡ set (drafts s) 4 (Some (done ++ piece)))
-  added v h = (
-    h.0 ∙ same,
-    h.1
-        ∙ ap (λ t. set (drafts u) 4 (Some (unwrap_or t [] ++ piece))) there
-        ∙ ap (λ ds. set ds 4 (Some (done ++ piece))) begun
-        ∙ set-set (drafts s) 4 (Some done) (Some (done ++ piece)),
-  )
-
-  pub still_whole : text ≡ (done ++ piece) ++ more
-  still_whole = whole ∙ ap (λ xs. done ++ xs) next ∙ sym (append_assoc done piece more)
 
   piece_is : part text (length done) 1468 ≡ piece
   piece_is =

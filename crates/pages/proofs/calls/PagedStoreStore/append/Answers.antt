@@ -5,15 +5,6 @@ use Rattle.store.proofs.Counts.{count_set}
 use Rattle.pages.proofs.Frame.{kept, items_kept, drafts_kept, text_is, draft_is, fits_is}
 use Rattle.pages.proofs.calls.PagedStoreStore.append.Goals as goal
 
-pub overflow_add-total : goal.overflow_add-total
-overflow_add-total c = let own = c.in_ok-len.ensures.1 in omega arith
-
-pub needed-requires : goal.needed-requires
-needed-requires c = let own = c.in_ok-len.ensures.1 in omega arith
-
-pub needed-requires-2 : goal.needed-requires-2
-needed-requires-2 c = let own = c.in_ok-len.ensures.1 in omega arith
-
 pub returns-then-further-free : goal.returns-then-further-free
 returns-then-further-free c =
     let s = c.args.self.now in
@@ -25,12 +16,6 @@ returns-then-further-free c =
     let is = draft_is (vec_items s.pages.taken) s.drafts.held d (Some n) in-d own.1 in
     let fit = fits_is (vec_items s.pages.taken) (vec_items s.entries) s.drafts.held d n s.pages.limit piece in-d own.1 own.2 s.tally in
     record { meaning = (grind (arith, nat_tests), refl); limit = refl }
-
-pub write-requires : goal.write-requires
-write-requires c =
-    let s = c.args.self.now in
-    let own = c.in_ok-len.ensures.1 in
-    record { has = own.2; small = omega arith; free = omega (arith, s.pages.within, c.free.ensures, c.needed.ensures, c.needed-2.ensures) }
 
 pub invariant_of-self : goal.invariant_of-self
 invariant_of-self c =

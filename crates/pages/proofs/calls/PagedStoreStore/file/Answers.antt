@@ -1,5 +1,4 @@
 use Rattle.std.proofs.Common.{◌≡◌, ℕ, ◌<◌, map, length, is_some, Some, None, vec_items, sym, refl, ap, ◌∙◌, arith}
-use Rattle.std.proofs.lemmas.Result.{err_from_is_err_and}
 use Rattle.std.proofs.lemmas.Bool.Decides.{nat_tests}
 use Rattle.store.specs.Meaning.{position}
 use Rattle.pages.specs.Layout.{items_of, drafts_of, passed}
@@ -8,20 +7,6 @@ use Rattle.store.specs.declared.owner.Owner.TheVariants.{Draft, Item}
 use Rattle.store.proofs.Counts.{count_set}
 use Rattle.pages.proofs.Frame.{after_filing, text_is}
 use Rattle.pages.proofs.calls.PagedStoreStore.file.Goals as goal
-
-pub returns-in_err-len : goal.returns-in_err-len
-returns-in_err-len c =
-    let why = c.in_err-len.ensures in
-    let p = err_from_is_err_and c.from_residual.result c.from_residual.ensures.1 in
-    record { meaning = rw (p.1, p.2) (grind (arith, nat_tests), refl); limit = refl }
-
-pub push_reserved-requires : goal.push_reserved-requires
-push_reserved-requires c =
-    let s = c.args.self.now in
-    let own = c.in_ok-len.ensures.1 in
-    let in-d : c.args.draft < length s.drafts.held = omega (arith, own.0, s.drafts.five) in
-    let few = count_set is_some s.drafts.held c.args.draft (Some c.in_ok-len.len) None None in-d own.1 in
-    omega (arith, s.few, s.sixteen, s.entries.ok.0)
 
 pub invariant_of-self : goal.invariant_of-self
 invariant_of-self c =

@@ -20,9 +20,11 @@ returns c =
     let told = c.in_ok-len.ensures in
     let len_is : c.in_ok-len.len ≡ filed_len fs i = told.1 ∙ bytes_length ps fs i s.filings in
     let held : filed_len fs i ≤ length (flat (texts (Item i) ps)) = omega (arith, length-flat (Item i) ps, s.filings i) in
-    let cut : n - 0 ≡ n = omega arith in
-    let sub : List ℕ = take (n - 0) buf in
-    let sub-long : length sub ≡ n = simp length-take (omega arith) in
-    let h = read_is (flat (texts (Item i) ps)) _ sub c.copy.new.buf (filed_len fs i) from (length buf) n (bytes_is ps fs i) held (omega arith) (c.min-n.ensures ∙ ap (λ k. min (k - from) (length buf)) len_is) sub-long c.copy.ensures in
+    let got = rw c.in_ok-left.ensures.ok_part at c.checked_sub.ensures in
+    let within : from ≤ c.in_ok-len.len = got.0 in
+    let sub : List ℕ = take n buf in
+    let sub-long : length sub ≡ n = simp length-take (omega (arith, c.min-n.ensures)) in
+    let n-is : n ≡ min (filed_len fs i - from) (length buf) = c.min-n.ensures ∙ ap (λ k. min k (length buf)) got.1 ∙ ap (λ k. min (k - from) (length buf)) len_is in
+    let h = read_is (flat (texts (Item i) ps)) _ sub c.copy.new.buf (filed_len fs i) from (length buf) n (bytes_is ps fs i) held (omega arith) n-is sub-long c.copy.ensures in
     let long = bytes_length ps fs i s.filings in
-    (grind (arith, nat_tests), (sym h.1, ap (λ k. c.copy.new.buf ++ drop k buf) cut ∙ ap (λ x. x ++ drop n buf) h.0))
+    (grind (arith, nat_tests), (sym h.1, ap (λ x. x ++ drop n buf) h.0))

@@ -1,17 +1,12 @@
-use Rattle.std.proofs.Common.{◌≡◌, ◌+◌, ◌-◌, ◌<◌, ◌≤◌, min, [], ◌++◌, length, get_or, take, drop, vec_items, rules, sym, ap, ◌∙◌, arith}
+use Rattle.std.proofs.Common.{◌≡◌, ◌+◌, ◌-◌, ◌<◌, ◌≤◌, min, ◌++◌, length, get_or, take, drop, vec_items, rules, sym, ap, ◌∙◌, arith}
 use borrow.Rule.Slice.PartMut.{put_mid}
-use Rattle.std.proofs.lemmas.List.{take_all, drop_all, length-take, length-drop}
+use Rattle.std.proofs.lemmas.List.{length-take, length-drop}
 use Rattle.store.specs.Meaning.{part}
 use Rattle.pages.specs.Layout.{same, texts, flat}
 use Rattle.pages.proofs.Texts.{same_sym}
 use Rattle.pages.proofs.Copies.{copied, flat_next, texts_next}
 use Rattle.pages.proofs.parts.Pages.copy.Goals as goal
 use Rattle.pages.proofs.parts.Pages.copy.Goals.{then-eq, else-eq}
-
-pub loop-page-init : goal.loop-page-init
-loop-page-init c =
-    let none : part [] c.args.from (length c.args.buf.now) ≡ [] = ap (take (length c.args.buf.now)) (drop_all c.args.from [] (omega arith)) ∙ take_all (length c.args.buf.now) [] (omega arith) in
-    (ap (λ x. x ++ c.args.buf.now) (sym none), ap length (sym none), omega arith, omega arith)
 
 pub loop-page-preserved : goal.loop-page-preserved
 loop-page-preserved c =
@@ -54,10 +49,3 @@ loop-page-preserved c =
             omega (arith, w.done-is),
           )
     ]
-
-pub returns : goal.returns
-returns c =
-    let ps = (vec_items c.args.self.now.taken) in
-    let all = take_all c.loop-page.page-index ps (omega (arith, ap length c.deref-page-items.ensures.value)) in
-    let got = ap (λ x. part (flat (texts c.args.who x)) c.args.from (length c.args.buf.now)) all in
-    c.loop-page.invariant.0 ∙ ap (λ k. part (flat (texts c.args.who (take c.loop-page.page-index ps))) c.args.from (length c.args.buf.now) ++ drop k c.args.buf.now) c.loop-page.invariant.1 ∙ ap (λ x. x ++ drop (length x) c.args.buf.now) got

@@ -1,6 +1,5 @@
-use Rattle.std.proofs.Common.{◌≡◌, ◌<◌, ◌≤◌, ◌++◌, map, length, drop, set, get_or, sym, refl, ap, ◌∙◌, arith, rules}
+use Rattle.std.proofs.Common.{◌≡◌, ◌<◌, length, set, get_or, sym, refl, ap, ◌∙◌, arith, rules}
 use Rattle.std.proofs.lemmas.List.Edits.{map_over_more}
-use Rattle.std.proofs.lemmas.List.{with_items_is, take_all, drop_all, append-nil}
 use Rattle.std.proofs.lemmas.Bool.{cond-true, cond-false}
 use Rattle.pages.specs.Layout.{same, passed}
 use Rattle.pages.proofs.Texts.{page_same, same_sym}
@@ -26,13 +25,3 @@ loop-page-preserved c =
           ∙ ap (set c.loop-page.page-items i) (sym c.page-item.is ∙ page_same x (passed c.args.from c.args.to x) (sym (cond-false _ _ _ (sym told' ∙ w.if-eq.false))) refl)
           ∙ more
     ]
-
-pub returns : goal.returns
-returns c =
-    let v = c.args.self.now.taken in
-    let xs = c.deref_mut-page-items.result.now in
-    let i = c.loop-page.page-index in
-    let is = c.deref_mut-page-items.ensures.value in
-    let far : length xs ≤ i = omega arith in
-    let all = c.loop-page.invariant ∙ ap (λ ys. map (passed c.args.from c.args.to) ys ++ drop i xs) (take_all i xs far) ∙ ap (λ ys. map (passed c.args.from c.args.to) xs ++ ys) (drop_all i xs far) ∙ append-nil _ in
-    record { limit = refl; items = with_items_is v c.loop-page.page-items (omega (arith, ap length is, v.ok.0)) ∙ all ∙ ap (map (passed c.args.from c.args.to)) is }

@@ -1,6 +1,5 @@
-use Rattle.std.proofs.Common.{◌≡◌, ℕ, List, [], ◌++◌, length, vec_items, sym, ap, ◌∙◌, subst, arith}
-use Rattle.std.proofs.lemmas.List.{nil_from_length, append-nil, append_assoc, length-append}
-use Rattle.pages.specs.Changes.{Extend}
+use Rattle.std.proofs.Common.{◌++◌, vec_items, sym, ap, ◌∙◌, arith}
+use Rattle.std.proofs.lemmas.List.{append_assoc, length-append}
 use Rattle.pages.proofs.Texts.{extended_both}
 use Rattle.pages.proofs.parts.Pages.write.Goals as goal
 
@@ -14,12 +13,3 @@ loop-rest-preserved c =
       omega (arith, inv.2, length-append inv.0 part),
       record { limit = c.extend.ensures.limit ∙ inv.3.limit; items = both },
     )
-
-pub returns : goal.returns
-returns c =
-    let inv = c.loop-rest.invariant in
-    let zero : length c.loop-rest.rest.now ≡ 0 = grind arith in
-    let none : c.loop-rest.rest.now ≡ [] = nil_from_length c.loop-rest.rest.now zero in
-    let all : inv.0 ≡ c.args.piece.now = sym (inv.1 ∙ ap (λ xs. inv.0 ++ xs) none ∙ append-nil inv.0) in
-    let P : List ℕ → Type 0 = λ xs. Extend c.args.self.now c.loop-rest.self c.args.who c.args.len xs in
-    subst P all inv.3

@@ -2,7 +2,7 @@ use Rattle.std.proofs.Common.{◌+◌, ◌<◌, ◌≤◌, ◌++◌, length, set
 use Rattle.std.proofs.lemmas.Bool.Decides.{nat_tests}
 use Rattle.store.specs.Meaning.{Distinct}
 use Rattle.slots.specs.Layout.{items_of, drafts_of}
-use Rattle.slots.proofs.Rows.{before, length-after}
+use Rattle.slots.proofs.Rows.{length-after}
 use Rattle.slots.proofs.Appends.{text_is, items_after, drafts_after, stays}
 use Rattle.slots.proofs.calls.SlotStoreStore.append.Goals as goal
 
@@ -13,14 +13,6 @@ returns-then-piece-self c =
     let text = text_is (vec_items s.memory) s.size s.owners s.drafts.held c.args.draft c.in_ok-slot.field-0 s.cut own.1 own.2 in
     let long = ap length text.0 ∙ text.2 in
     record { meaning = (grind (arith, nat_tests), refl); size = refl }
-
-pub write-requires : goal.write-requires
-write-requires c =
-    let s = c.args.self.now in
-    let e = c.in_ok-slot.field-0 in
-    let own = c.in_ok-slot.ensures.1 in
-    let fits : e.len + length c.args.piece.now ≤ s.size = omega (arith, own.2.1) in
-    omega (arith, before e.slot 16 s.size (e.len + length c.args.piece.now) own.2.0 fits, s.cut, s.memory.ok.0)
 
 pub invariant_of-self : goal.invariant_of-self
 invariant_of-self c =

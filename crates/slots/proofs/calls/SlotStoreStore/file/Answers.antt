@@ -8,16 +8,9 @@ use Rattle.store.specs.declared.owner.Owner.{Owner}
 use Rattle.store.specs.declared.owner.Owner.TheVariants.{Draft, Item}
 use Rattle.store.specs.declared.entry.Entry.{Entry}
 use Rattle.slots.specs.declared.parts.Extent.{Extent}
-use Rattle.slots.proofs.Owners.{handed, filings_push, few_filed}
+use Rattle.slots.proofs.Owners.{handed, filings_push}
 use Rattle.slots.proofs.Appends.{text_is}
 use Rattle.slots.proofs.calls.SlotStoreStore.file.Goals as goal
-
-pub push_reserved-requires : goal.push_reserved-requires
-push_reserved-requires c =
-    let s = c.args.self.now in
-    let own = c.in_ok-extent.ensures.1 in
-    let in-d : c.args.draft < length s.drafts.held = omega (arith, own.0, s.drafts.five) in
-    omega (arith, few_filed s.owners (vec_items s.entries) s.drafts.held c.args.draft c.in_ok-extent.extent s.sixteen in-d own.1 s.tally, s.room, s.entries.ok.0)
 
 pub invariant_of-self : goal.invariant_of-self
 invariant_of-self c =

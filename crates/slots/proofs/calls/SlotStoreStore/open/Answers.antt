@@ -1,31 +1,11 @@
-use Rattle.std.proofs.Common.{◌≡◌, ◌<◌, length, set, Some, None, vec_items, refl, ap, ◌∙◌, arith, length-set}
+use Rattle.std.proofs.Common.{◌<◌, length, set, Some, None, vec_items, refl, ap, ◌∙◌, arith, length-set}
 use Rattle.std.proofs.lemmas.List.{map-set, get_or-set_same}
-use Rattle.std.proofs.lemmas.Result.{err_from_is_err_and}
 use Rattle.std.proofs.lemmas.Bool.Decides.{nat_tests}
 use Rattle.slots.specs.Layout.{Held, drafts_of}
 use Rattle.slots.specs.declared.parts.Extent.{Extent}
 use Rattle.store.specs.declared.owner.Owner.TheVariants.{Draft}
 use Rattle.slots.proofs.Owners.{handed, open_is, only}
 use Rattle.slots.proofs.calls.SlotStoreStore.open.Goals as goal
-
-pub returns-in_err-check_absent : goal.returns-in_err-check_absent
-returns-in_err-check_absent c =
-    let s = c.args.self.now in
-    let is = open_is (vec_items s.memory) s.size s.drafts.held c.args.draft in
-    let why = c.in_err-check_absent.ensures in
-    let p = err_from_is_err_and c.from_residual.result c.from_residual.ensures.1 in
-    record { meaning = rw (p.1, p.2) (grind (arith, nat_tests), refl); size = refl }
-
-pub returns-in_err-slot : goal.returns-in_err-slot
-returns-in_err-slot c =
-    let s = c.args.self.now in
-    let is = open_is (vec_items s.memory) s.size s.drafts.held c.args.draft in
-    let free = c.in_ok-check_absent.ensures in
-    let none : c.free_slot.result ≡ None = grind arith in
-    let full = rw none at c.free_slot.ensures in
-    let why = c.in_err-slot.ensures.value in
-    let p = err_from_is_err_and c.from_residual-in_err-slot.result c.from_residual-in_err-slot.ensures.1 in
-    record { meaning = rw (p.1, p.2) (grind (arith, nat_tests), refl); size = refl }
 
 pub invariant_of-self : goal.invariant_of-self
 invariant_of-self c =
