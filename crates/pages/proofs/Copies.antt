@@ -8,7 +8,7 @@ use Rattle.store.specs.Meaning.{part}
 use Rattle.store.proofs.Parts.{part_is}
 use Rattle.pages.specs.Layout.{same, texts, flat}
 use Rattle.pages.specs.declared.parts.Page.{Page}
-use Rattle.pages.specs.declared.parts.Owner.{Owner}
+use Rattle.store.specs.declared.owner.Owner.{Owner}
 use Rattle.pages.proofs.Texts.{texts-append, flat_append, take_past}
 
 -- as many as are left of two lists, one after the other

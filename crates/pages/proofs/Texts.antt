@@ -1,15 +1,15 @@
 -- The texts of an owner's pages, as pages come and go. Assumes nothing.
-use Rattle.std.proofs.Common.{◌≡◌, ℕ, suc, ◌+◌, ◌-◌, ◌*◌, ◌%◌, ◌<◌, ◌≤◌, Bool, true, false, cond, List, [], ◌∷◌, ◌++◌, map, length, get_or, take, drop, set, sym, refl, ap, ◌∙◌, subst, ⊎_elim, arith, take-add}
+use Rattle.std.proofs.Common.{◌≡◌, ℕ, zero, suc, ◌+◌, ◌*◌, ◌%◌, ◌<◌, ◌≤◌, Bool, true, false, cond, List, [], ◌∷◌, ◌++◌, map, length, get_or, take, drop, set, Some, None, Option, MatchOption, IfSome, sym, refl, ap, ◌∙◌, subst, ⊎_elim, arith}
 use native.Mathlib.Nat.{ℕ_set}
 use lib.Seq.{take-append-add}
-use Rattle.std.proofs.lemmas.List.{append-nil, append_assoc, length-append, length_push, length-set, length-take-le, take-append-le, drop_more, get_or_read, set_split, set-get_or}
+use Rattle.std.proofs.lemmas.List.{append-nil, append_assoc, length-append, length_push, length-set, length-take-le, length-drop, get_or-drop, take-append-le, set_split, set-get_or}
 use Rattle.std.proofs.lemmas.Slice.{take-put_mid}
 use Rattle.std.proofs.lemmas.Bool.{eq-eqb, eqb-true, cases_Bool}
 use Rattle.store.specs.Memory.{overwritten}
 use Rattle.pages.specs.Layout.{same, texts, flat, content, need, without, passed, Last, Extended}
 use Rattle.pages.specs.declared.parts.Page.{Page}
-use Rattle.pages.specs.declared.parts.Owner.{Owner}
-use Rattle.pages.specs.declared.parts.Owner.TheVariants.{Draft, Item}
+use Rattle.store.specs.declared.owner.Owner.{Owner}
+use Rattle.store.specs.declared.owner.Owner.TheVariants.{Draft, Item}
 
 pub same_refl : (w : Owner) → same w w ≡ true
 same_refl (Draft a) = eq-eqb a a refl
@@ -23,6 +23,12 @@ same_is (Item a) (Item b) h = ap Item (eqb-true a b h)
 
 pub differs : (w v : Owner) → (w ≡ v → ⊥) → same w v ≡ false
 differs w v ne = ⊎_elim (λ (t : same w v ≡ true). absurd (ne (same_is w v t))) (λ (f : same w v ≡ false). f) (cases_Bool (same w v))
+
+pub same_sym : (w v : Owner) → same w v ≡ same v w
+same_sym (Draft a) (Draft b) = grind arith
+same_sym (Draft a) (Item b) = refl
+same_sym (Item a) (Draft b) = refl
+same_sym (Item a) (Item b) = grind arith
 
 -- pages of one owner and one text are the same
 pub page_same : (p q : Page) → p.owner ≡ q.owner → p.text ≡ q.text → p ≡ q
@@ -182,19 +188,18 @@ extended_both ps qs rs w n m a b at h g =
       grown = omega (arith, h.grown, g.grown);
     }
 
--- the search for an owner's last page, from the end
-module _ (w : Owner) (ps : List Page) (i : ℕ) (p : Page) (some : 0 < i) (within : i ≤ length ps) (is : p ≡ get_or ps (i - 1) p) (none : texts w (drop i ps) ≡ []) where
-  pub last_not : same w p.owner ≡ false → texts w (drop (i - 1) ps) ≡ []
-  last_not f =
-      let lt : i - 1 < length ps = omega arith in
-      let next : (i - 1) + 1 ≡ i = omega arith in
-      ap (texts w) (drop_more ps (i - 1) p lt ∙ ap (λ x. x ∷ drop ((i - 1) + 1) ps) (sym is) ∙ ap (λ k. p ∷ drop k ps) next) ∙ ap (λ b. cond b (p.text ∷ texts w (drop i ps)) (texts w (drop i ps))) f ∙ none
+-- no page is the owner's
+no_texts : (w : Owner) (ps : List Page) → ((k : ℕ) (z : Page) → k < length ps → same w (get_or ps k z).owner ≡ false) → texts w ps ≡ []
+no_texts w [] h = refl
+no_texts w (p ∷ ps) h =
+    ap (λ b. cond b (p.text ∷ texts w ps) (texts w ps)) (h zero p (omega arith)) ∙ no_texts w ps (λ k z lt. h (suc k) z (omega arith))
 
-  pub last_found : same w p.owner ≡ true → Last w ps (i - 1)
-  last_found t =
-      let lt : i - 1 < length ps = omega arith in
-      let next : suc (i - 1) ≡ i = omega arith in
-      (lt, (λ z. ap (λ x. x.owner) (sym (get_or_read ps (i - 1) p lt is z)) ∙ sym (same_is w p.owner t)), ap (λ k. texts w (drop k ps)) next ∙ none)
-
-pub take_both : (n m : ℕ) (xs : List ℕ) → take n xs ++ take m (drop n xs) ≡ take (n + m) xs
-take_both n m xs = sym (take-add n m xs)
+-- where the search for an owner's last page ends
+pub last_is : (w : Owner) (ps : List Page) (r : Option ℕ) → MatchOption r ((k : ℕ) (z : Page) → k < length ps → same w (get_or ps k z).owner ≡ false) (λ k. (k < length ps) × ((z : Page) → same w (get_or ps k z).owner ≡ true)) → IfSome r (λ k. (j : ℕ) (z : Page) → k < j → j < length ps → same w (get_or ps j z).owner ≡ false) → MatchOption r (texts w ps ≡ []) (λ k. Last w ps k)
+last_is w ps None h after = no_texts w ps h
+last_is w ps (Some k) h after = (
+  h.0,
+  (λ z. sym (same_is w (get_or ps k z).owner (h.1 z))),
+  no_texts w (drop (suc k) ps) (λ j z lt.
+      ap (λ p. same w p.owner) (get_or-drop (suc k) ps j z) ∙ after (suc k + j) z (omega arith) (omega (arith, length-drop (suc k) ps))),
+)

@@ -3,10 +3,10 @@ use Rattle.std.specs.Prelude.{◌≡◌, ℕ, zero, suc, ◌+◌, ◌-◌, ◌/�
 use Rattle.std.specs.Option.{option_map, unwrap_or}
 use Rattle.store.specs.Meaning.{Item, Draft, text_at}
 use Rattle.terms.specs.Named.{name_text}
-use Rattle.pages.specs.declared.parts.Entry.{Entry}
+use Rattle.store.specs.declared.entry.Entry.{Entry}
 use Rattle.pages.specs.declared.parts.Page.{Page}
-use Rattle.pages.specs.declared.parts.Owner.{Owner}
-use Rattle.pages.specs.declared.parts.Owner.TheVariants.{Draft as DraftOf, Item as ItemOf}
+use Rattle.store.specs.declared.owner.Owner.{Owner}
+use Rattle.store.specs.declared.owner.Owner.TheVariants.{Draft as DraftOf, Item as ItemOf}
 
 -- one owner and the same
 abbrev pub same : Owner → Owner → Bool
@@ -34,10 +34,10 @@ abbrev pub imap : {X Y : Type 0} → (ℕ → X → Y) → List X → List Y
 imap f [] = []
 imap f (x ∷ xs) = f 0 x ∷ imap (λ i. f (suc i)) xs
 
-abbrev pub item_of : List Page → ℕ → Entry → Item
-item_of ps i f = record { name = name_text f.name; bytes = content ps (ItemOf i) f.len }
+abbrev pub item_of : List Page → ℕ → Entry ℕ → Item
+item_of ps i f = record { name = name_text f.name; bytes = content ps (ItemOf i) f.kept }
 
-abbrev pub items_of : List Page → List Entry → List Item
+abbrev pub items_of : List Page → List (Entry ℕ) → List Item
 items_of ps fs = imap (item_of ps) fs
 
 abbrev pub draft_of : List Page → ℕ → Option ℕ → Draft
@@ -55,9 +55,9 @@ abbrev pub drafted : List (Option ℕ) → ℕ → ℕ
 drafted ds d = unwrap_or (slice_index_or ds d None) 0
 
 -- how many bytes an item has, and 0 past the last
-abbrev pub filed_len : List Entry → ℕ → ℕ
+abbrev pub filed_len : List (Entry ℕ) → ℕ → ℕ
 filed_len [] i = 0
-filed_len (f ∷ fs) zero = f.len
+filed_len (f ∷ fs) zero = f.kept
 filed_len (f ∷ fs) (suc i) = filed_len fs i
 
 -- each draft has the pages that it needs, and an absent one none
@@ -65,7 +65,7 @@ abbrev pub Begun : List Page → List (Option ℕ) → Type 0
 Begun ps ds = (d : ℕ) → length (texts (DraftOf d) ps) ≡ need (drafted ds d)
 
 -- each item has the pages that it needs
-abbrev pub Filings : List Page → List Entry → Type 0
+abbrev pub Filings : List Page → List (Entry ℕ) → Type 0
 Filings ps fs = (i : ℕ) → length (texts (ItemOf i) ps) ≡ need (filed_len fs i)
 
 -- the pages in use, by what the store means
@@ -73,7 +73,7 @@ abbrev pub used : List Item → List Draft → ℕ
 used xs ds = sum_by (λ x. need (length x.bytes)) xs + sum_by (λ o. need (length (unwrap_or o []))) ds
 
 -- and there are no other pages
-abbrev pub Tally : List Page → List Entry → List (Option ℕ) → Type 0
+abbrev pub Tally : List Page → List (Entry ℕ) → List (Option ℕ) → Type 0
 Tally ps fs ds = length ps ≡ used (items_of ps fs) (drafts_of ps ds)
 
 -- the further pages that a piece needs are free

@@ -1,3 +1,4 @@
 pub mod Layout
+pub mod Changes
 pub mod Rules
 pub mod Indexed

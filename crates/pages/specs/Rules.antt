@@ -8,10 +8,10 @@ use Rattle.pages.specs.declared.setup.SetupError.TheVariants.{Refused, NoMemory}
 use Rattle.pages.specs.declared.table.PagedStore.{PagedStore}
 
 abbrev pub page_items : PagedStore → List Item
-page_items s = items_of (vec_items s.pages) (vec_items s.entries)
+page_items s = items_of (vec_items s.pages.taken) (vec_items s.entries)
 
 abbrev pub page_drafts : PagedStore → List Draft
-page_drafts s = drafts_of (vec_items s.pages) s.drafts
+page_drafts s = drafts_of (vec_items s.pages.taken) s.drafts.held
 
 -- items and drafts together are fewer than 16
 abbrev pub page_opens : PagedStore → Bool
@@ -19,10 +19,10 @@ page_opens s = room_for (page_items s) (page_drafts s)
 
 -- the further pages that the piece needs are free
 abbrev pub page_takes : PagedStore → ℕ → List ℕ → Bool
-page_takes s d piece = fits s.limit (page_items s) (page_drafts s) d piece
+page_takes s d piece = fits s.pages.limit (page_items s) (page_drafts s) d piece
 
 -- a store that is set up is empty and has that many pages; more than 256 are refused; else there was no memory
 abbrev pub SetUp : ℕ → Result PagedStore SetupError → Type 0
-SetUp n (Ok s) = (n ≤ 256) × (s.limit ≡ n) × (page_items s ≡ []) × (page_drafts s ≡ replicate 5 None)
+SetUp n (Ok s) = (n ≤ 256) × (s.pages.limit ≡ n) × (page_items s ≡ []) × (page_drafts s ≡ replicate 5 None)
 SetUp n (Err (Refused e)) = (256 < n) × (e ≡ OutOfRange)
 SetUp n (Err NoMemory) = n ≤ 256

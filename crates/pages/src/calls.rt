@@ -6,10 +6,10 @@ ghost use Rattle.pages.specs.Rules.{page_items, page_drafts, page_opens, page_ta
 ghost use Rattle.pages.specs.Indexed.{length-imap};
 
 use crate::page::needed;
-use crate::parts::{Entry, Owner};
-use crate::runs::{copy, give_back, pass, write};
 use crate::table::PagedStore;
+use store::entry::{ENTRIES_MAX, Entry, find};
 use store::interface::{PIECE_MAX, Store};
+use store::owner::Owner;
 use terms::name::Name;
 use terms::refusal::Refusal;
 
@@ -22,57 +22,43 @@ impl Store for PagedStore {
 
     ghost takes = { page_takes };
 
-    ghost five = { λ s. length-imap _ s.drafts ∙ s.five };
+    ghost five = { λ s. length-imap _ s.drafts.held ∙ s.drafts.five };
 
     ghost distinct = { λ s. s.distinct };
 
     fn find(&self, name: &[u8]) -> Option<usize> {
-        for (i, entry) in self.entries.iter().enumerate() {
-            if entry.name.text() == name {
-                return Some(i);
-            }
-        }
-        None
+        find(&self.entries, name)
     }
 
     fn size(&self, item: usize) -> Result<usize, Refusal> {
-        if item >= self.entries.len() {
-            return Err(Refusal::OutOfRange);
-        }
-        Ok(self.entries[item].len)
+        let entry = self.entries.get(item).ok_or(Refusal::OutOfRange)?;
+        Ok(entry.kept)
     }
 
     fn read(&self, item: usize, from: usize, buf: &mut [u8]) -> Result<usize, Refusal> {
         let len = self.size(item)?;
-        if from > len {
-            return Err(Refusal::OutOfRange);
-        }
-        let n = (len - from).min(buf.len());
-        copy(&self.pages, Owner::Item(item), from, &mut buf[0..n]);
+        let left = len.checked_sub(from).ok_or(Refusal::OutOfRange)?;
+        let n = left.min(buf.len());
+        self.pages.copy(Owner::Item(item), from, &mut buf[..n]);
         Ok(n)
     }
 
+    // This and the calls below each say that the limit stays: an invariant is no plainer, since it speaks of one value of the store.
     fn open(&mut self, draft: usize) -> Result<(), Refusal>
         ensures meaning { Opened page_items page_drafts page_opens self.old self.new draft result }
-        ensures limit { self.new.limit ≡ self.old.limit }
+        ensures limit { self.new.pages.limit ≡ self.old.pages.limit }
     {
-        if draft > 4 {
-            return Err(Refusal::OutOfRange);
-        }
-        let held = self.drafts[draft];
-        if let Some(_) = held {
-            return Err(Refusal::DraftState);
-        }
-        if self.standing() >= 16 {
+        self.drafts.check_absent(draft)?;
+        if self.standing() >= ENTRIES_MAX {
             return Err(Refusal::NoDraftFree);
         }
-        self.drafts[draft] = Some(0);
+        self.drafts.set(draft, 0);
         Ok(())
     }
 
     fn append(&mut self, draft: usize, piece: &[u8]) -> Result<(), Refusal>
         ensures meaning { Appended page_items page_drafts page_takes self.old self.new draft piece.now result }
-        ensures limit { self.new.limit ≡ self.old.limit }
+        ensures limit { self.new.pages.limit ≡ self.old.pages.limit }
     {
         if piece.len() > PIECE_MAX {
             return Err(Refusal::OutOfRange);
@@ -80,40 +66,40 @@ impl Store for PagedStore {
         let len = self.drafted(draft)?;
         let total = len + piece.len();
         let further = needed(total) - needed(len);
-        if further > self.limit - self.pages.len() {
+        if further > self.pages.free() {
             return Err(Refusal::NotTaken);
         }
-        write(&mut self.pages, Owner::Draft(draft), len, piece);
-        self.drafts[draft] = Some(total);
+        self.pages.write(Owner::Draft(draft), len, piece);
+        self.drafts.set(draft, total);
         Ok(())
     }
 
     fn file(&mut self, draft: usize, name: &[u8]) -> Result<(), Refusal>
         ensures meaning { Filed page_items page_drafts self.old self.new draft name.now result }
-        ensures limit { self.new.limit ≡ self.old.limit }
+        ensures limit { self.new.pages.limit ≡ self.old.pages.limit }
     {
         let len = self.drafted(draft)?;
         let own = Name::new(name)?;
-        if let Some(_) = self.find(name) {
+        if self.find(name).is_some() {
             return Err(Refusal::NameInUse);
         }
-        pass(
-            &mut self.pages,
-            Owner::Draft(draft),
-            Owner::Item(self.entries.len()),
-        );
-        self.entries.push_reserved(Entry { name: own, len });
-        self.drafts[draft] = None; // it is an item now
+        let to = Owner::Item(self.entries.len());
+        self.pages.pass(Owner::Draft(draft), to);
+        self.entries.push_reserved(Entry {
+            name: own,
+            kept: len,
+        });
+        self.drafts.clear(draft); // it is an item now
         Ok(())
     }
 
     fn strike(&mut self, draft: usize) -> Result<(), Refusal>
         ensures meaning { Struck page_items page_drafts page_opens self.old self.new draft result }
-        ensures limit { self.new.limit ≡ self.old.limit }
+        ensures limit { self.new.pages.limit ≡ self.old.pages.limit }
     {
         self.drafted(draft)?;
-        give_back(&mut self.pages, Owner::Draft(draft));
-        self.drafts[draft] = None;
+        self.pages.give_back(Owner::Draft(draft));
+        self.drafts.clear(draft);
         Ok(())
     }
 }

@@ -1,25 +1,25 @@
 // The parts of a paged store's table.
-ghost use Rattle.std.specs.Prelude.{◌≡◌, length};
+ghost use Rattle.std.specs.Prelude.{◌≡◌, ◌≤◌, length, vec_capacity};
 
-use terms::name::Name;
+use store::owner::Owner;
 
-// Whose a page is.
-#[derive(Clone, Copy)]
-pub enum Owner {
-    Draft(usize),
-    Item(usize),
-}
+// The bytes of one page.
+pub const PAGE_SIZE: usize = 64;
 
 #[derive(Clone, Copy)]
 pub struct Page {
     pub owner: Owner,
-    pub text: [u8; 64],
+    pub text: [u8; PAGE_SIZE],
     ghost whole: { length text ≡ 64 },
 }
 
-// An item: its name, and how many bytes it has.
-#[derive(Clone, Copy)]
-pub struct Entry {
-    pub name: Name,
-    pub len: usize,
+// The pages in use, in the order in which they were taken, each with its owner. Room for all that there can be is reserved.
+#[derive(Drop)]
+pub struct Pages {
+    pub(crate) taken: Vec<Page>,
+    // how many there can be
+    pub(crate) limit: usize,
+    ghost most: { limit ≤ 256 },
+    ghost within: { length taken.items ≤ limit },
+    ghost reserved: { limit ≤ vec_capacity taken },
 }

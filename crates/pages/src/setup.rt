@@ -3,12 +3,15 @@ ghost use Rattle.std.specs.Prelude.{◌≡◌};
 ghost use Rattle.pages.specs.Rules.{SetUp};
 ghost use Rattle.pages.specs.declared.setup.SetupError.TheVariants.{NoMemory};
 
+use crate::parts::Pages;
 use crate::table::PagedStore;
 use std::alloc::{AllocError, Global};
+use store::drafts::Drafts;
+use store::entry::ENTRIES_MAX;
 use terms::refusal::Refusal;
 
 // Why a store was not set up.
-#[derive(Clone, Copy, Debug)]
+#[derive(Clone, Copy, PartialEq, Eq, Debug)]
 pub enum SetupError {
     Refused(Refusal),
     NoMemory,
@@ -30,20 +33,22 @@ impl PagedStore {
         if pages > 256 {
             return Err(SetupError::Refused(Refusal::OutOfRange));
         }
-        let memory = Vec::with_capacity(heap, pages)?;
-        let entries = Vec::with_capacity(heap, 16)?;
+        let taken = Vec::with_capacity(heap, pages)?;
+        let entries = Vec::with_capacity(heap, ENTRIES_MAX)?;
         Ok(PagedStore {
-            pages: memory,
-            limit: pages,
+            pages: Pages {
+                taken,
+                limit: pages,
+            },
             entries,
-            drafts: [None; 5],
+            drafts: Drafts::new(),
         })
     }
 
     // How many pages there can be in use.
     pub fn page_limit(&self) -> usize
-        ensures { result ≡ self.now.limit }
+        ensures { result ≡ self.now.pages.limit }
     {
-        self.limit
+        self.pages.limit
     }
 }

@@ -1,16 +1,14 @@
 -- Where a slot's bytes lie. Assumes nothing.
-use Rattle.std.proofs.Common.{◌≡◌, ℕ, zero, suc, ◌+◌, ◌*◌, ◌<◌, ◌≤◌, List, [], ◌∷◌, ◌++◌, map, length, get_or, take, drop, set, sym, refl, ap, ◌∙◌, subst, ⊎_elim, mul-le-mul_right, add-mul, one-mul, arith}
-use Rattle.std.proofs.lemmas.List.{length-take, drop-take, drop-append-le, get_or-map}
+use Rattle.std.proofs.Common.{◌≡◌, ℕ, zero, suc, ◌+◌, ◌*◌, ◌<◌, ◌≤◌, List, [], ◌∷◌, ◌++◌, map, length, get_or, take, drop, set, sym, refl, ap, ◌∙◌, ⊎_elim, mul-le-mul_right, add-mul, one-mul, arith}
+use Rattle.std.proofs.lemmas.List.{length-take, drop-take, drop-append-le}
 use Rattle.std.proofs.lemmas.Slice.{take-put_mid, take-put_mid_below, drop-put_mid}
 use Rattle.std.proofs.lemmas.Bool.{cases_lt}
-use Rattle.store.specs.Meaning.{no_item}
+use Rattle.terms.specs.Named.{name_text}
 use Rattle.store.specs.Memory.{overwritten}
 use Rattle.store.proofs.Parts.{length-overwritten}
-use Rattle.slots.specs.Layout.{item_of, items_of, content, Held, Filings}
-use Rattle.slots.specs.declared.parts.Owner.{Owner}
-use Rattle.slots.specs.declared.parts.Owner.TheVariants.{Item}
+use Rattle.slots.specs.Layout.{items_of, content}
 use Rattle.slots.specs.declared.parts.Extent.{Extent}
-use Rattle.slots.specs.declared.parts.Entry.{Entry}
+use Rattle.store.specs.declared.entry.Entry.{Entry}
 
 -- a slot ends where a later one begins, or before
 pub before : (s t size l : ℕ) → s < t → l ≤ size → s * size + l ≤ t * size
@@ -18,12 +16,10 @@ before s t size l lt le =
     let rows : (s + 1) * size ≤ t * size = mul-le-mul_right {m = s + 1} {n = t} size (omega arith) in
     omega (arith, add-mul s 1 size, one-mul size)
 
--- the extent of an item that was read
-pub filed_held : (size : ℕ) (owners : List Owner) (fs : List Entry) (i : ℕ) (x : Entry) → i < length fs → x ≡ get_or fs i x → Filings size owners fs → Held size owners (Item i) x.extent
-filed_held size owners fs i x lt is h = let P : Entry → Type 0 = λ f. Held size owners (Item i) f.extent in subst P (sym is) (h i x lt)
-
-pub item_is : (mem : List ℕ) (size : ℕ) (fs : List Entry) (i : ℕ) (x : Entry) → i < length fs → x ≡ get_or fs i x → get_or (items_of mem size fs) i no_item ≡ item_of mem size x
-item_is mem size fs i x lt is = get_or-map (item_of mem size) fs i x no_item lt ∙ ap (item_of mem size) (sym is)
+-- entries have the names of their items
+pub names_are : (mem : List ℕ) (size : ℕ) (fs : List (Entry Extent)) → map (λ f. name_text f.name) fs ≡ map (λ x. x.name) (items_of mem size fs)
+names_are mem size [] = refl
+names_are mem size (f ∷ fs) = ap (λ ns. name_text f.name ∷ ns) (names_are mem size fs)
 
 -- Slot s has l bytes in use, and a piece that fits is written after them.
 module _ (mem : List ℕ) (size s l : ℕ) (piece : List ℕ) (inside : s < 16) (fits : l + length piece ≤ size) (cut : 16 * size ≤ length mem) where

@@ -9,7 +9,7 @@ abbrev pub slot_items : SlotStore → List Item
 slot_items s = items_of (vec_items s.memory) s.size (vec_items s.entries)
 
 abbrev pub slot_drafts : SlotStore → List Draft
-slot_drafts s = drafts_of (vec_items s.memory) s.size s.drafts
+slot_drafts s = drafts_of (vec_items s.memory) s.size s.drafts.held
 
 -- items and drafts together are fewer than 16
 abbrev pub slot_opens : SlotStore → Bool

@@ -6,10 +6,13 @@ ghost use Rattle.slots.specs.Rules.{SetUp, slot_items, slot_drafts, slot_opens, 
 ghost use Rattle.std.proofs.lemmas.List.{length-map};
 
 use crate::lookups::write;
-use crate::parts::{Entry, Extent, Owner};
+use crate::parts::{Extent, SLOTS};
 use crate::table::SlotStore;
 use std::alloc::{AllocError, Global};
+use store::drafts::Drafts;
+use store::entry::{ENTRIES_MAX, Entry, find};
 use store::interface::{PIECE_MAX, Store};
+use store::owner::Owner;
 use terms::name::Name;
 use terms::refusal::Refusal;
 
@@ -19,14 +22,14 @@ impl SlotStore {
         ensures { SetUp bytes result }
     {
         let memory = vec![in heap; 0u8; bytes]?;
-        let entries = Vec::with_capacity(heap, 16)?;
-        let size = bytes / 16;
+        let entries = Vec::with_capacity(heap, ENTRIES_MAX)?;
+        let size = bytes / SLOTS;
         Ok(SlotStore {
             memory,
             size,
             entries,
-            drafts: [None; 5],
-            owners: [Owner::Nobody; 16],
+            drafts: Drafts::new(),
+            owners: [None; SLOTS],
         })
     }
 
@@ -47,17 +50,12 @@ impl Store for SlotStore {
 
     ghost takes = { slot_takes };
 
-    ghost five = { λ s. length-map s.drafts _ ∙ s.five };
+    ghost five = { λ s. length-map s.drafts.held _ ∙ s.drafts.five };
 
     ghost distinct = { λ s. s.distinct };
 
     fn find(&self, name: &[u8]) -> Option<usize> {
-        for (i, entry) in self.entries.iter().enumerate() {
-            if entry.name.text() == name {
-                return Some(i);
-            }
-        }
-        None
+        find(&self.entries, name)
     }
 
     fn size(&self, item: usize) -> Result<usize, Refusal> {
@@ -67,30 +65,21 @@ impl Store for SlotStore {
 
     fn read(&self, item: usize, from: usize, buf: &mut [u8]) -> Result<usize, Refusal> {
         let bytes = self.bytes(item)?;
-        if from > bytes.len() {
-            return Err(Refusal::OutOfRange);
-        }
-        let n = (bytes.len() - from).min(buf.len());
-        buf[0..n].copy_from_slice(&bytes[from..from + n]);
+        let left = bytes.get(from..).ok_or(Refusal::OutOfRange)?;
+        let n = left.len().min(buf.len());
+        buf[..n].copy_from_slice(&left[..n]);
         Ok(n)
     }
 
+    // This and the calls below each say that the size of a slot stays: an invariant is no plainer, since it speaks of one value of the store.
     fn open(&mut self, draft: usize) -> Result<(), Refusal>
         ensures meaning { Opened slot_items slot_drafts slot_opens self.old self.new draft result }
         ensures size { self.new.size ≡ self.old.size }
     {
-        if draft > 4 {
-            return Err(Refusal::OutOfRange);
-        }
-        let held = self.drafts[draft];
-        if let Some(_) = held {
-            return Err(Refusal::DraftState);
-        }
-        let Some(slot) = self.free_slot() else {
-            return Err(Refusal::NoDraftFree);
-        };
-        self.owners[slot] = Owner::Draft(draft);
-        self.drafts[draft] = Some(Extent { slot, len: 0 });
+        self.drafts.check_absent(draft)?;
+        let slot = self.free_slot().ok_or(Refusal::NoDraftFree)?;
+        self.owners[slot] = Some(Owner::Draft(draft));
+        self.drafts.set(draft, Extent { slot, len: 0 });
         Ok(())
     }
 
@@ -106,10 +95,11 @@ impl Store for SlotStore {
             return Err(Refusal::NotTaken);
         }
         write(&mut self.memory, slot * self.size + len, piece);
-        self.drafts[draft] = Some(Extent {
+        let longer = Extent {
             slot,
             len: len + piece.len(),
-        });
+        };
+        self.drafts.set(draft, longer);
         Ok(())
     }
 
@@ -119,12 +109,15 @@ impl Store for SlotStore {
     {
         let extent = self.extent(draft)?;
         let own = Name::new(name)?;
-        if let Some(_) = self.find(name) {
+        if self.find(name).is_some() {
             return Err(Refusal::NameInUse);
         }
-        self.owners[extent.slot] = Owner::Item(self.entries.len());
-        self.entries.push_reserved(Entry { name: own, extent });
-        self.drafts[draft] = None; // it is an item now
+        self.owners[extent.slot] = Some(Owner::Item(self.entries.len()));
+        self.entries.push_reserved(Entry {
+            name: own,
+            kept: extent,
+        });
+        self.drafts.clear(draft); // it is an item now
         Ok(())
     }
 
@@ -133,8 +126,8 @@ impl Store for SlotStore {
         ensures size { self.new.size ≡ self.old.size }
     {
         let extent = self.extent(draft)?;
-        self.owners[extent.slot] = Owner::Nobody;
-        self.drafts[draft] = None;
+        self.owners[extent.slot] = None;
+        self.drafts.clear(draft);
         Ok(())
     }
 }

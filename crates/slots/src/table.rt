@@ -3,7 +3,10 @@ ghost use Rattle.std.specs.Prelude.{◌≡◌, ◌*◌, ◌≤◌, length, vec_c
 ghost use Rattle.store.specs.Meaning.{Distinct};
 ghost use Rattle.slots.specs.Layout.{Filings, Begun, Tally, items_of};
 
-use crate::parts::{Entry, Extent, Owner};
+use crate::parts::{Extent, SLOTS};
+use store::drafts::Drafts;
+use store::entry::Entry;
+use store::owner::Owner;
 
 #[derive(Drop)]
 pub struct SlotStore {
@@ -11,15 +14,15 @@ pub struct SlotStore {
     // the bytes of one slot
     pub(crate) size: usize,
     // in filing order
-    pub(crate) entries: Vec<Entry>,
-    pub(crate) drafts: [Option<Extent>; 5],
-    pub(crate) owners: [Owner; 16],
+    pub(crate) entries: Vec<Entry<Extent>>,
+    pub(crate) drafts: Drafts<Extent>,
+    // whose each slot is, if anyone's
+    pub(crate) owners: [Option<Owner>; SLOTS],
     ghost cut: { 16 * size ≤ length memory.items },
-    ghost five: { length drafts ≡ 5 },
     ghost sixteen: { length owners ≡ 16 },
     ghost filings: { Filings size owners entries.items },
-    ghost begun: { Begun size owners drafts },
-    ghost tally: { Tally owners entries.items drafts },
+    ghost begun: { Begun size owners drafts.held },
+    ghost tally: { Tally owners entries.items drafts.held },
     ghost distinct: { Distinct (items_of memory.items size entries.items) },
     ghost room: { 16 ≤ vec_capacity entries },
 }

@@ -1,7 +1,5 @@
 pub mod Counts
-pub mod Drafts
-pub mod Layings
+pub mod HostDraft
 pub mod Parts
 pub mod Pieces
 pub mod Positions
-pub mod Standings

@@ -1,27 +1,16 @@
 -- Which item has a name. Assumes nothing.
-use Rattle.std.proofs.Common.{◌≡◌, ℕ, zero, suc, ◌<◌, Bool, true, false, cond, List, [], ◌∷◌, ◌++◌, length, get_or, Some, None, Option, sym, refl, ap, ◌∙◌, ⊎_elim, arith}
+use Rattle.std.proofs.Common.{◌≡◌, ℕ, zero, suc, ◌+◌, ◌<◌, Bool, true, false, cond, not, ltb, List, [], ◌∷◌, ◌++◌, map, length, get_or, Some, None, Option, sym, refl, ap, ◌∙◌, ⊎_elim, arith}
+use Rattle.std.specs.List.{position as first_place, position_or_len}
 use Rattle.std.specs.Option.{option_map}
+use Rattle.terms.specs.Named.{name_text}
+use Rattle.store.specs.Entries.{is_called}
+use Rattle.store.specs.declared.entry.Entry.{Entry}
 use Rattle.std.specs.Str.{bytes_eq}
 use Rattle.std.proofs.lemmas.Slice.Eq.{bytes_eq-Decides}
 use Rattle.std.proofs.lemmas.List.{length_push, get_or_push, get_or_append_left}
-use Rattle.std.proofs.lemmas.Bool.{cases_eq, cases_Bool, both_ways}
+use Rattle.std.proofs.lemmas.Bool.{cases_eq, both_ways}
+use Rattle.std.proofs.lemmas.Bool.Decides.{nat_tests}
 use Rattle.store.specs.Meaning.{Item, no_item, position, Distinct}
-
-differs : (a n : List ℕ) → (a ≡ n → ⊥) → bytes_eq a n ≡ false
-differs a n ne = ⊎_elim (λ (t : bytes_eq a n ≡ true). absurd (ne ((bytes_eq-Decides a n).0 t))) (λ (f : bytes_eq a n ≡ false). f) (cases_Bool (bytes_eq a n))
-
--- the first item of that name
-pub position_found : (n : List ℕ) (xs : List Item) (i : ℕ) → i < length xs → (get_or xs i no_item).name ≡ n → ((k : ℕ) → k < i → (get_or xs k no_item).name ≡ n → ⊥) → position n xs ≡ Some i
-position_found n [] i lt is before = absurd (omega arith)
-position_found n (x ∷ xs) zero lt is before = rw ((bytes_eq-Decides x.name n).1 is)
-position_found n (x ∷ xs) (suc i) lt is before =
-    let rest = position_found n xs i (omega arith) is (λ k below. before (suc k) (omega arith)) in
-    rw (differs x.name n (before zero (omega arith)), rest)
-
-pub position_none : (n : List ℕ) (xs : List Item) → ((k : ℕ) → k < length xs → (get_or xs k no_item).name ≡ n → ⊥) → position n xs ≡ None
-position_none n [] all = refl
-position_none n (x ∷ xs) all =
-    rw (differs x.name n (all zero (omega arith)), position_none n xs (λ k below. all (suc k) (omega arith)))
 
 -- one way of `position` being none
 none_parts : (b : Bool) (o : Option ℕ) → cond b (Some 0) (option_map suc o) ≡ None → (b ≡ false) × (o ≡ None)
@@ -47,3 +36,23 @@ distinct_push xs x new h i j f =
     let within : j < length xs = omega (arith, f.1, length_push xs x) in
     h i j (f.0, within, ap (λ y. y.name) (sym left) ∙ f.2 ∙ ap (λ y. y.name) (get_or_append_left xs (x ∷ []) no_item j within)))
     (cases_eq j (length xs))
+
+-- std's search for the first element that passes, one element further
+first_next_by : (b : Bool) (i n : ℕ) → cond (ltb (cond (not b) (1 + i) 0) (suc n)) (Some (cond (not b) (1 + i) 0)) None ≡ cond b (Some 0) (option_map suc (cond (ltb i n) (Some i) None))
+first_next_by true i n = grind (arith, nat_tests)
+first_next_by false i n = grind (arith, nat_tests)
+
+pub first_next : {X : Type 0} (p : X → Bool) (x : X) (xs : List X) → first_place p (x ∷ xs) ≡ cond (p x) (Some 0) (option_map suc (first_place p xs))
+first_next p x xs = first_next_by (p x) (position_or_len p xs) (length xs)
+
+-- The first entry of that name is the first item of that name, where the entries have the items' names.
+pub found : {T : Type 0} (n : List ℕ) (fs : List (Entry T)) (xs : List Item) → map (λ f. name_text f.name) fs ≡ map (λ x. x.name) xs → first_place (is_called n) fs ≡ position n xs
+found n [] [] same = refl
+found n [] (x ∷ xs) same = absurd (cc)
+found n (f ∷ fs) [] same = absurd (cc)
+found n (f ∷ fs) (x ∷ xs) same =
+    let here : name_text f.name ≡ x.name = cc in
+    let rest : map (λ f. name_text f.name) fs ≡ map (λ x. x.name) xs = cc in
+    first_next (is_called n) f fs
+    ∙ ap (λ m. cond (bytes_eq m n) (Some 0) (option_map suc (first_place (is_called n) fs))) here
+    ∙ ap (λ o. cond (bytes_eq x.name n) (Some 0) (option_map suc o)) (found n fs xs rest)

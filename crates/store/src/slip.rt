@@ -50,11 +50,8 @@ fn add_all<S: Store>(store: &mut S, slip: &Slip, text: &[u8]) -> Result<(), Refu
     requires { draft_at (S.drafts store.old) 4 ≡ Some [] }
     ensures { CopiedIn S.items S.drafts S.takes store.old store.new text.now result }
 {
-    let mut done = 0;
-    while done < text.len() {
-        let n = (text.len() - done).min(PIECE_MAX);
-        add(store, slip, &text[done..done + n])?;
-        done += n;
+    for piece in text.chunks(PIECE_MAX) {
+        add(store, slip, piece)?;
     }
     Ok(())
 }

@@ -9,13 +9,7 @@ use store::{fault, slip};
 use terms::refusal::Refusal;
 
 fn text() -> [u8; 3000] {
-    let mut text = [0; 3000];
-    let mut b = 0u8;
-    for x in text.iter_mut() {
-        *x = b;
-        b = b.wrapping_add(7);
-    }
-    text
+    std::array::from_fn(|i| ((i % 256) as u8).wrapping_mul(7))
 }
 
 // Lays in 3,000 bytes and reads a part of them back.
@@ -51,10 +45,7 @@ fn a_refused_item_leaves_nothing(rt: HostRuntime) -> Result<(), Fail> {
         Err(Refusal::NotTaken)
     );
     assert_eq!(rt; store.find(b"log"), None);
-    let slip = match slip::begin(&mut store) {
-        Ok(slip) => slip,
-        Err(why) => return Err(Fail::new(why.number())),
-    };
+    let slip = slip::begin(&mut store)?;
     let refused = slip::file(&mut store, slip, b"a b");
     assert_eq!(rt; refused, Err(Refusal::IllegalName));
     assert_eq!(rt; store.open(4), Ok(()));
@@ -65,17 +56,14 @@ fn a_refused_item_leaves_nothing(rt: HostRuntime) -> Result<(), Fail> {
 fn a_refusal_keeps_its_number(rt: HostRuntime) -> Result<(), Fail> {
     let mut store = PagedStore::new(rt.alloc(), 1)?;
     store.open(0)?;
-    for (len, block, work, number) in [
-        (64, 64, 1472, 0),
-        (1, 64, 1472, 29),
-        (65, 64, 1472, 7),
-        (1, 64, 1471, 9),
+    for (len, block, work, taken) in [
+        (64, 64, 1472, Ok(64)),
+        (1, 64, 1472, Err(29)),
+        (65, 64, 1472, Err(7)),
+        (1, 64, 1471, Err(9)),
     ] {
-        let told = match fault::hear(&mut store, 0, &[0; 65][0..len], block, work) {
-            Ok(_) => 0,
-            Err(why) => why.number(),
-        };
-        assert_eq!(rt; told, number);
+        let told = fault::hear(&mut store, 0, &[0; 65][0..len], block, work);
+        assert_eq!(rt; told.map_err(|why| why.number()), taken);
     }
     Ok(())
 }

@@ -1,8 +1,10 @@
 // The memory of a slot store.
+use crate::script::Answer::{self, Count, Done, Item};
 use crate::script::{Step, run};
 use slots::table::SlotStore;
 use std::test::Fail;
 use store::slip;
+use terms::refusal::Refusal::{DraftState, NoDraftFree, NotTaken, OutOfRange};
 
 // Memory, and the size of a slot.
 const SIZES: [(usize, usize); 6] = [(0, 0), (15, 0), (16, 1), (31, 1), (8191, 511), (8192, 512)];
@@ -16,23 +18,23 @@ fn a_draft_fills_its_slot(rt: HostRuntime) -> Result<(), Fail> {
             &rt,
             &mut store,
             &[
-                (Step::Open(2), 0),
-                (Step::Append(2, size), 0),
-                (Step::Append(2, 0), 0),
-                (Step::Append(2, 1), 10_029),
-                (Step::File(2, b'a'), 0),
-                (Step::Size(0), size as u32),
+                (Step::Open(2), Done(Ok(()))),
+                (Step::Append(2, size), Done(Ok(()))),
+                (Step::Append(2, 0), Done(Ok(()))),
+                (Step::Append(2, 1), Done(Err(NotTaken))),
+                (Step::File(2, b'a'), Done(Ok(()))),
+                (Step::Size(0), Count(Ok(size))),
             ],
         );
     }
     Ok(())
 }
 
-const FULL: [(Step, u32); 4] = [
-    (Step::Open(0), 10_028),
-    (Step::Find(b'p'), 15),
-    (Step::Size(15), 1),
-    (Step::Size(16), 10_006),
+const FULL: [(Step, Answer); 4] = [
+    (Step::Open(0), Done(Err(NoDraftFree))),
+    (Step::Find(b'p'), Item(Some(15))),
+    (Step::Size(15), Count(Ok(1))),
+    (Step::Size(16), Count(Err(OutOfRange))),
 ];
 
 #[test]
@@ -45,23 +47,23 @@ fn sixteen_items_fill_a_store(rt: HostRuntime) -> Result<(), Fail> {
     Ok(())
 }
 
-const INTERLEAVED: [(Step, u32); 16] = [
-    (Step::Open(0), 0),
-    (Step::Open(1), 0),
-    (Step::Open(2), 0),
-    (Step::Open(3), 0),
-    (Step::Open(4), 0),
-    (Step::Append(4, 4), 0),
-    (Step::Append(0, 3), 0),
-    (Step::Append(4, 1), 10_029),
-    (Step::Append(0, 1), 0),
-    (Step::Strike(2), 0),
-    (Step::Append(2, 1), 10_036),
-    (Step::File(4, b'e'), 0),
-    (Step::File(0, b'a'), 0),
-    (Step::Find(b'e'), 0),
-    (Step::Find(b'a'), 1),
-    (Step::Open(2), 0),
+const INTERLEAVED: [(Step, Answer); 16] = [
+    (Step::Open(0), Done(Ok(()))),
+    (Step::Open(1), Done(Ok(()))),
+    (Step::Open(2), Done(Ok(()))),
+    (Step::Open(3), Done(Ok(()))),
+    (Step::Open(4), Done(Ok(()))),
+    (Step::Append(4, 4), Done(Ok(()))),
+    (Step::Append(0, 3), Done(Ok(()))),
+    (Step::Append(4, 1), Done(Err(NotTaken))),
+    (Step::Append(0, 1), Done(Ok(()))),
+    (Step::Strike(2), Done(Ok(()))),
+    (Step::Append(2, 1), Done(Err(DraftState))),
+    (Step::File(4, b'e'), Done(Ok(()))),
+    (Step::File(0, b'a'), Done(Ok(()))),
+    (Step::Find(b'e'), Item(Some(0))),
+    (Step::Find(b'a'), Item(Some(1))),
+    (Step::Open(2), Done(Ok(()))),
 ];
 
 #[test]

@@ -1,12 +1,11 @@
-use Rattle.std.proofs.Common.{◌≡◌, ◌-◌, ◌≤◌, length, take, set, Some}
+use Rattle.std.proofs.Common.{◌≡◌, ℕ, List, ◌++◌, set, Some}
 use Rattle.store.proofs.slip.add_all.Given as goal
 
 -- the draft has what is done of the text
-abbrev pub invariant-loop-done : goal.invariant-loop-done
-invariant-loop-done g l =
-    (l.done ≤ length l.text)
+abbrev pub invariant-loop-piece : goal.invariant-loop-piece
+invariant-loop-piece g l =
+    (done : List ℕ)
+    × (l.piece-iterator.size ≡ 1468)
+    × (l.text ≡ done ++ l.piece-iterator.rest.now)
     × (g.S.Store.items l.store ≡ g.S.Store.items l.initial.store)
-    × (g.S.Store.drafts l.store ≡ set (g.S.Store.drafts l.initial.store) 4 (Some (take l.done l.text)))
-
-abbrev pub decreases-loop-done : goal.decreases-loop-done
-decreases-loop-done g l = length l.text - l.done
+    × (g.S.Store.drafts l.store ≡ set (g.S.Store.drafts l.initial.store) 4 (Some done))

@@ -1,6 +1,6 @@
 use Rattle.std.proofs.Common.{subst}
 use Rattle.store.specs.Laying.{Discarded}
-use Rattle.store.proofs.Drafts.{discarded}
+use Rattle.store.proofs.HostDraft.{discarded}
 use Rattle.store.proofs.slip.file.Goals as goal
 
 pub returns-in-Err : goal.returns-in-Err

@@ -2,7 +2,7 @@ use Rattle.std.proofs.Common.{◌≡◌, ℕ, ◌-◌, ◌≤◌, min, List, ◌
 use Rattle.std.proofs.lemmas.List.{length-take}
 use Rattle.std.proofs.lemmas.Bool.Decides.{nat_tests}
 use Rattle.pages.specs.Layout.{filed_len, texts, flat}
-use Rattle.pages.specs.declared.parts.Owner.TheVariants.{Item}
+use Rattle.store.specs.declared.owner.Owner.TheVariants.{Item}
 use Rattle.pages.proofs.Texts.{length-flat}
 use Rattle.pages.proofs.Frame.{bytes_is, bytes_length}
 use Rattle.pages.proofs.Copies.{read_is}
@@ -11,7 +11,7 @@ use Rattle.pages.proofs.calls.PagedStoreStore.read.Goals as goal
 pub returns : goal.returns
 returns c =
     let s = c.args.self.now in
-    let ps = vec_items s.pages in
+    let ps = vec_items s.pages.taken in
     let fs = vec_items s.entries in
     let i = c.args.item in
     let from = c.args.from in
@@ -20,9 +20,11 @@ returns c =
     let told = c.in_ok-len.ensures in
     let len_is : c.in_ok-len.len ≡ filed_len fs i = told.1 ∙ bytes_length ps fs i s.filings in
     let held : filed_len fs i ≤ length (flat (texts (Item i) ps)) = omega (arith, length-flat (Item i) ps, s.filings i) in
-    let cut : n - 0 ≡ n = omega arith in
-    let sub : List ℕ = take (n - 0) buf in
-    let sub-long : length sub ≡ n = simp length-take (omega arith) in
-    let h = read_is (flat (texts (Item i) ps)) _ sub c.copy.new.buf (filed_len fs i) from (length buf) n (bytes_is ps fs i) held (omega arith) (c.min-n.ensures ∙ ap (λ k. min (k - from) (length buf)) len_is) sub-long c.copy.ensures in
+    let got = rw c.in_ok-left.ensures.ok_part at c.checked_sub.ensures in
+    let within : from ≤ c.in_ok-len.len = got.0 in
+    let sub : List ℕ = take n buf in
+    let sub-long : length sub ≡ n = simp length-take (omega (arith, c.min-n.ensures)) in
+    let n-is : n ≡ min (filed_len fs i - from) (length buf) = c.min-n.ensures ∙ ap (λ k. min k (length buf)) got.1 ∙ ap (λ k. min (k - from) (length buf)) len_is in
+    let h = read_is (flat (texts (Item i) ps)) _ sub c.copy.new.buf (filed_len fs i) from (length buf) n (bytes_is ps fs i) held (omega arith) n-is sub-long c.copy.ensures in
     let long = bytes_length ps fs i s.filings in
-    (grind (arith, nat_tests), (sym h.1, ap (λ k. c.copy.new.buf ++ drop k buf) cut ∙ ap (λ x. x ++ drop n buf) h.0))
+    (grind (arith, nat_tests), (sym h.1, ap (λ x. x ++ drop n buf) h.0))
