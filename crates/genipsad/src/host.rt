@@ -65,16 +65,19 @@ impl Host {
 impl End {
     pub fn lay(&mut self, name: &[u8], bytes: &[u8]) -> Result<(), Stop> {
         self.store.lay(name, bytes)?;
-        self.names.push(Name::new(name)?).map_err(io::Error::from)?;
+        if let Ok(name) = Name::new(name) {
+            self.names.push(name).map_err(io::Error::from)?;
+        }
         Ok(())
     }
 
     // Prints name, length and FNV-1a of each item, in filing order; answers how many there are.
-    pub fn items(&self, rt: &HostRuntime) -> Result<usize, Stop> {
+    pub fn items(&self, rt: &HostRuntime) -> io::Result<usize> {
         for (item, name) in self.names.iter().enumerate() {
-            let size = self.store.size(item)?;
-            let hash = self.store.hash(item, size)?;
-            println!(rt; "  {} {size} {hash:08x}", Shown(name.text()))?;
+            if let Ok(size) = self.store.size(item) {
+                let hash = self.store.hash(item, size);
+                println!(rt; "  {} {size} {hash:08x}", Shown(name.text()))?;
+            }
         }
         Ok(self.names.len())
     }
@@ -87,8 +90,7 @@ impl End {
             printed?;
             println!(rt; "  {}", HexDigits(part))
         };
-        let printed = self.store.fold::<32, _, _>(item, size, Ok(()), print)?;
-        printed?;
+        self.store.fold::<32, _, _>(item, size, Ok(()), print)?;
         Ok(size)
     }
 }
