@@ -91,7 +91,7 @@ apart_drafts : (k d : ℕ) → (k ≡ d → ⊥) → Draft k ≡ Draft d → ⊥
 apart_drafts k d ne e = ne (cc)
 
 no_item_draft : (i d : ℕ) → Item i ≡ Draft d → ⊥
-no_item_draft i d e = let z : ◌≡◌ {A = ℕ} 0 1 = cc in omega arith
+no_item_draft i d e = cc
 
 -- One draft changes, and its pages with it: no other owner's do.
 module _ (ps qs : List Page) (fs : List (Entry ℕ)) (ds : List (Option ℕ)) (d : ℕ) (had o : Option ℕ) (in-d : d < length ds) (had-is : get_or ds d None ≡ had)

@@ -56,7 +56,7 @@ unmapped (Some i) h = absurd (cc)
 
 all_owned : (owners : List (Option Owner)) → first_place is_none owners ≡ None → count_by is_some owners ≡ length owners
 all_owned [] h = refl
-all_owned (None ∷ os) h = absurd (let z : ◌≡◌ {A = Option ℕ} (Some 0) None = sym (first_next is_none None os) ∙ h in cc)
+all_owned (None ∷ os) h = absurd (cc (first_next is_none None os))
 all_owned (Some o ∷ os) h =
     omega (arith, sum_by-cons (λ x. cond (is_some x) 1 0) (Some o) os, all_owned os (unmapped (first_place is_none os) (sym (first_next is_none (Some o) os) ∙ h)))
 

@@ -14,9 +14,9 @@ use Rattle.store.specs.Meaning.{Item, no_item, position, Distinct}
 
 -- one way of `position` being none
 none_parts : (b : Bool) (o : Option ℕ) → cond b (Some 0) (option_map suc o) ≡ None → (b ≡ false) × (o ≡ None)
-none_parts true o h = absurd (let z : ◌≡◌ {A = ℕ} 0 1 = cc in omega arith)
+none_parts true o h = absurd (cc)
 none_parts false None h = (refl, refl)
-none_parts false (Some x) h = absurd (let z : ◌≡◌ {A = ℕ} 0 1 = cc in omega arith)
+none_parts false (Some x) h = absurd (cc)
 
 pub none_there : (n : List ℕ) (xs : List Item) → position n xs ≡ None → (k : ℕ) → k < length xs → (get_or xs k no_item).name ≡ n → ⊥
 none_there n [] none k lt is = omega arith

@@ -29,6 +29,7 @@ pub fn file<S: Store>(store: &mut S, slip: Slip, name: &[u8]) -> Result<(), Refu
     ensures { Settled S.items S.drafts S.opens store.old store.new 4 name.now result }
 {
     let Slip(()) = slip;
+    // As `inspect_err` it was tried, and the proof didn't close: nothing is known of a store that a closure changed.
     match store.file(HOST_DRAFT, name) {
         Ok(()) => Ok(()),
         Err(why) => {
