@@ -57,7 +57,7 @@ impl AnyStore {
     }
 
     // Folds the bytes of an item, in parts of at most N bytes, as far as the store gives them.
-    pub fn fold<const N: usize, A: Drop, F: FnMut(A, &[u8]) -> A>(
+    pub(crate) fn fold<const N: usize, A: Drop, F: FnMut(A, &[u8]) -> A>(
         &self,
         item: usize,
         size: usize,

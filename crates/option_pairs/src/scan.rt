@@ -12,8 +12,8 @@ use crate::values::{Options, Range, Ranges};
 use grammar::pairs::is_paired;
 use terms::refusal::Refusal;
 
-// What pairs give: each option's value, and whether every pair is an option with a value in its range. The flag stays beside the values: it does not
-// say whether they are there, since the cabin takes what is found whatever the flag says.
+// What pairs give: each option's value, and whether every pair is an option with a value in its range. An `Option` is no plainer than the flag: it does
+// not say whether the values are there, since the cabin takes what is found whatever the flag says.
 #[derive(Clone, Copy, PartialEq, Eq, Debug)]
 pub struct Scan {
     pub found: Options,

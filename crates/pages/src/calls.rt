@@ -79,6 +79,7 @@ impl Store for PagedStore {
         ensures limit { self.new.pages.limit ≡ self.old.pages.limit }
     {
         let len = self.drafted(draft)?;
+        // the same two tests for both kinds of store: a function for them is no plainer, since each is one call already
         let own = Name::new(name)?;
         if self.find(name).is_some() {
             return Err(Refusal::NameInUse);

@@ -108,6 +108,7 @@ impl Store for SlotStore {
         ensures size { self.new.size ≡ self.old.size }
     {
         let extent = self.extent(draft)?;
+        // the same two tests for both kinds of store: a function for them is no plainer, since each is one call already
         let own = Name::new(name)?;
         if self.find(name).is_some() {
             return Err(Refusal::NameInUse);

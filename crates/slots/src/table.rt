@@ -16,7 +16,7 @@ pub struct SlotStore {
     // in filing order
     pub(crate) entries: Vec<Entry<Extent>>,
     pub(crate) drafts: Drafts<Extent>,
-    // whose each slot is, if anyone's
+    // whose each slot is, if anyone's; a rule of the project cuts the memory into slots, so the table of them stays beside those of items and drafts
     pub(crate) owners: [Option<Owner>; SLOTS],
     ghost cut: { 16 * size ≤ length memory.items },
     ghost sixteen: { length owners ≡ 16 },

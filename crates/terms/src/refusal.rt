@@ -62,6 +62,7 @@ pub enum Refusal {
 }
 
 impl Refusal {
+    // A trait for this call and those of sides and causes is no plainer: no code is generic over them.
     pub fn number(self) -> u8
         ensures { result ≡ number self }
     {
