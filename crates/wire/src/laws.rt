@@ -8,12 +8,10 @@ use grammar::message::Message;
 use terms::refusal::Refusal;
 
 // The laws hold.
-pub fn codec_stands() -> u8
+pub fn codec_stands()
     ensures written_read { WrittenRead }
     ensures read_written { ReadWritten }
-{
-    0
-}
+{}
 
 // Writes a message, and reads what was written: the message itself.
 pub fn write_then_read<'b>(message: Message<'_>, buf: &'b mut [u8]) -> Result<Message<'b>, Refusal>
