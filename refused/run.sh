@@ -6,7 +6,7 @@ cd "$(dirname "$0")/.." || exit 2
 copy=$(mktemp -d) || exit 2
 trap 'rm -rf "$copy"' EXIT
 mkdir "$copy/crates"
-printf 'terms:\nstore: terms\n' >"$copy/crates.txt"
+grep -E '^(terms|store):' crates.txt >"$copy/crates.txt"
 cp -r crates/terms crates/store "$copy/crates"
 failed=0
 for edit in refused/*.edit; do
