@@ -56,6 +56,7 @@ impl AnyStore {
         }
     }
 
+    // A struct of an item's number and size is no plainer: this call and the hash alone take both.
     // Folds the bytes of an item, in parts of at most N bytes, as far as the store gives them.
     pub(crate) fn fold<const N: usize, A: Drop, F: FnMut(A, &[u8]) -> A>(
         &self,

@@ -12,6 +12,7 @@ pub fn number(value: &[u8]) -> Option<u32>
     if value.len() > 10 {
         return None;
     }
+    // `parse` takes other values too, and `try_fold` is no plainer.
     let mut n: u64 = 0;
     for b in value {
         if *b < b'0' || *b > b'9' {

@@ -43,7 +43,7 @@ impl<'a> Iterator for Pairs<'a> {
     }
 }
 
-// Whether one of the pairs has the name, without regard to the case of A to Z.
+// Whether one of the pairs has the name, without regard to the case of A to Z. As `any` it was tried, and the proof didn't close.
 pub(crate) fn has_name(name: &[u8], pairs: &[u8]) -> bool
     ensures { (ps : List PairOf) → Are ps pairs.now → result ≡ has_name name.now ps }
 {

@@ -53,11 +53,7 @@ fn scan_pairs(bytes: &[u8], ranges: Ranges) -> Option<Scan>
     ensures { (ps : List PairOf) → Are ps bytes.now → ScansPairs ranges ps result }
 {
     let mut scan = Scan {
-        found: Options {
-            blksize: None,
-            timeout: None,
-            windowsize: None,
-        },
+        found: Options::default(),
         all_valid: true,
     };
     let mut name: Option<&[u8]> = None;

@@ -3,7 +3,7 @@ ghost use Rattle.std.specs.Prelude.{◌≡◌, ◌&&◌, nat_le};
 ghost use Rattle.option_pairs.specs.Values.{request_ranges, answer_ranges, up_to, just};
 
 // One thing for each of the three options.
-#[derive(Clone, Copy, PartialEq, Eq, Debug)]
+#[derive(Clone, Copy, PartialEq, Eq, Default, Debug)]
 pub struct PerOption<T> {
     pub blksize: T,
     pub timeout: T,

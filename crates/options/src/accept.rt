@@ -20,6 +20,7 @@ pub fn accept_pairs(asked: Options, own: Patience, pairs: &[u8]) -> Result<Agree
     if !scan.all_valid {
         return Err(Refusal::OptionsNotAccepted);
     }
+    // As the function's value, without the `?`, it was tried, and the proof didn't close.
     let agreed = settle(scan.found, own).map_err(|_| Refusal::OptionsNotAccepted)?;
     Ok(agreed)
 }

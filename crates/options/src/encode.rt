@@ -50,12 +50,8 @@ pub fn encode_options(options: Options) -> PairBytes
 pub fn encode_oack(answer: Options) -> Option<PairBytes>
     ensures { MatchOption result (answer ≡ no_options) (λ b. (pair_text b ≡ pairs (listed answer)) × (answer ≢ no_options)) }
 {
-    match answer {
-        Options {
-            blksize: None,
-            timeout: None,
-            windowsize: None,
-        } => None,
-        _ => Some(encode_options(answer)),
+    if answer == Options::default() {
+        return None;
     }
+    Some(encode_options(answer))
 }

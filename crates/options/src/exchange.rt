@@ -29,6 +29,7 @@ fn hear_request(asked: Options, own: Patience) -> Result<Offer, Refusal>
     answer_pairs(request.as_slice(), own)
 }
 
+// A struct of what was asked and the end's own patience is no plainer: this call and the acceptance alone take both.
 // What the shield holds once the cabin has answered: by the OACK, or unagreed values without one.
 fn hear_answer(asked: Options, own: Patience, answer: Options) -> Result<Agreed, Refusal>
     ensures { Hears asked own answer result }

@@ -91,7 +91,7 @@ fn patience(rt: HostRuntime) {
         let patience = Patience::new(wait, tries);
         assert!(rt; patience.err() == expected);
         if let Ok(patience) = patience {
-            assert!(rt; patience.wait as u32 == wait && patience.tries as u32 == tries);
+            assert!(rt; u32::from(patience.wait) == wait && u32::from(patience.tries) == tries);
         }
     }
 }

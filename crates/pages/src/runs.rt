@@ -2,7 +2,7 @@
 ghost use Rattle.std.specs.Prelude.{◌≡◌, ◌+◌, ◌-◌, ◌%◌, ◌<◌, ◌≤◌, [], ◌++◌, map, length, drop, MatchOption};
 ghost use Rattle.store.specs.Meaning.{part as part_of};
 ghost use Rattle.pages.specs.Layout.{without, passed, texts, flat, need, Last};
-ghost use Rattle.pages.specs.Changes.{Become, Extend};
+ghost use Rattle.pages.specs.Changes.{Becomes, Extends};
 
 use crate::parts::{PAGE_SIZE, Page, Pages};
 use store::owner::Owner;
@@ -17,14 +17,14 @@ impl Pages {
 
     // The owner's pages are given back, and the others close up.
     pub(crate) fn give_back(&mut self, who: Owner)
-        ensures { Become self.old self.new (without who self.old.taken.items) }
+        ensures { Becomes self.old self.new (without who self.old.taken.items) }
     {
         self.taken.retain(|page| page.owner != who);
     }
 
     // The owner's pages pass to another.
     pub(crate) fn pass(&mut self, from: Owner, to: Owner)
-        ensures { Become self.old self.new (map (passed from to) self.old.taken.items) }
+        ensures { Becomes self.old self.new (map (passed from to) self.old.taken.items) }
     {
         for page in self.taken.iter_mut() {
             if page.owner == from {
@@ -46,7 +46,7 @@ impl Pages {
         requires some { 0 < length part.now }
         requires fits { len % 64 + length part.now ≤ 64 }
         requires free { len % 64 ≡ 0 → length self.old.taken.items < self.old.limit }
-        ensures { Extend self.old self.new who len part.now }
+        ensures { Extends self.old self.new who len part.now }
     {
         let at = len % PAGE_SIZE;
         if at == 0 {
@@ -65,7 +65,7 @@ impl Pages {
         requires has { length (texts who self.old.taken.items) ≡ need len }
         requires small { len + length piece.now < 100000 }
         requires free { length self.old.taken.items + (need (len + length piece.now) - need len) ≤ self.old.limit }
-        ensures { Extend self.old self.new who len piece.now }
+        ensures { Extends self.old self.new who len piece.now }
     {
         let mut at = len;
         let mut rest = piece;
@@ -83,6 +83,7 @@ impl Pages {
     pub(crate) fn copy(&self, who: Owner, from: usize, buf: &mut [u8])
         ensures { buf.new ≡ part_of (flat (texts who self.now.taken.items)) from (length buf.old) ++ drop (length (part_of (flat (texts who self.now.taken.items)) from (length buf.old))) buf.old }
     {
+        // An iterator chain is no plainer: what is still skipped and what is done are counts of bytes, and no index.
         let mut skip = from;
         let mut done = 0;
         for page in &self.taken {

@@ -17,6 +17,7 @@ pub enum SetupError {
     NoMemory,
 }
 
+// By hand, with `from_gives`: a derive writes no clause, and `SetUp` says when the error is this one.
 impl From<AllocError> for SetupError {
     ghost from_gives = { λ e r. r ≡ NoMemory };
 

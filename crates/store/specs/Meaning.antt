@@ -4,6 +4,7 @@ use Rattle.std.specs.Option.{unwrap_or, option_map}
 use Rattle.std.specs.Str.{bytes_eq}
 use Rattle.terms.specs.declared.refusal.Refusal.{Refusal}
 use Rattle.terms.specs.declared.refusal.Refusal.TheVariants.{IllegalName, OutOfRange, NameInUse, NoDraftFree, NotTaken, DraftState}
+use Rattle.store.specs.Drafts.{held_refusal}
 use Rattle.terms.specs.Names.{legal_name}
 
 pub record Item : Type 0 where
@@ -69,7 +70,7 @@ file_refusal xs ds d n =
     cond (nat_lt 4 d) (Some OutOfRange) (cond (is_some (draft_at ds d)) (name_refusal xs n) (Some DraftState))
 
 abbrev pub strike_refusal : List Draft → ℕ → Option Refusal
-strike_refusal ds d = cond (nat_lt 4 d) (Some OutOfRange) (cond (is_some (draft_at ds d)) None (Some DraftState))
+strike_refusal ds d = held_refusal ds d
 
 -- A call answers `why` and leaves `Same`, or, if nothing stands against it, does `Done`.
 abbrev pub Answers : {X : Type 0} → Result X Refusal → Option Refusal → Type 0 → (X → Type 0) → Type 0

@@ -36,11 +36,11 @@ impl<T: Copy> Drafts<T> {
     pub fn check_absent(&self, draft: usize) -> Result<(), Refusal>
         ensures { Answers result (absent_refusal self.now.held draft) (Unit {0}) (λ _. (draft < 5) × (slice_index_or self.now.held draft None ≡ None)) }
     {
-        match self.held.get(draft) {
-            None => Err(Refusal::OutOfRange),
-            Some(Some(_)) => Err(Refusal::DraftState),
-            Some(None) => Ok(()),
+        let held = self.held.get(draft).ok_or(Refusal::OutOfRange)?;
+        if held.is_some() {
+            return Err(Refusal::DraftState);
         }
+        Ok(())
     }
 
     // How many drafts are open.
@@ -50,6 +50,7 @@ impl<T: Copy> Drafts<T> {
         self.held.iter().filter(|held| held.is_some()).count()
     }
 
+    // By `get_mut` this and `clear` were tried, and the proof didn't close.
     // An open draft of that number is one of which this is kept. Where no draft has the number, nothing changes.
     pub fn set(&mut self, draft: usize, kept: T)
         ensures { self.new.held ≡ slice_set self.old.held draft (Some kept) }

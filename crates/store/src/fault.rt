@@ -18,6 +18,7 @@ pub enum Fault {
 }
 
 impl Fault {
+    // As for refusals, a trait for numbers is no plainer.
     pub fn number(self) -> u8
         ensures { result ≡ fault_number self }
     {

@@ -62,6 +62,7 @@ pub fn lay_in<S: Store>(store: &mut S, name: &[u8], text: &[u8]) -> Result<(), R
     ensures { ItemLaid S.items S.drafts S.opens S.takes store.old store.new name.now text.now result }
 {
     let slip = begin(store)?;
+    // As in `file`, the store changes where adding fails, so the `match` stays.
     match add_all(store, &slip, text) {
         Ok(()) => file(store, slip, name),
         Err(why) => {

@@ -17,6 +17,7 @@ pub enum Cause {
 }
 
 impl Cause {
+    // As for refusals, a trait for numbers is no plainer.
     pub fn number(self) -> u8
         ensures { result ≡ cause_number self }
     {

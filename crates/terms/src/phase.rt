@@ -23,7 +23,7 @@ pub enum Phase {
 }
 
 impl Phase {
-    // The word that reports use.
+    // The word that reports use. A trait for the words of phases, roles and sides is no plainer: no code is generic over them.
     pub fn word(self) -> &'static str
         ensures { result.now ≡ phase_word self }
     {
@@ -45,7 +45,7 @@ impl Phase {
         matches!(self, Phase::Confirmed | Phase::Filed | Phase::Failed(_))
     }
 
-    // The number of the cause of a failed transfer, 0 for any other.
+    // The number of the cause of a failed transfer, 0 for any other: a rule of the project has reports show a number for each transfer.
     pub fn blame(self) -> u8
         ensures { result ≡ blame self }
     {

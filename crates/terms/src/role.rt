@@ -11,7 +11,7 @@ pub enum Role {
 }
 
 impl Role {
-    // The word that reports use.
+    // The word that reports use. A trait for words is no plainer: no code is generic over them.
     pub fn word(self) -> &'static str
         ensures { result.now ≡ role_word self }
     {

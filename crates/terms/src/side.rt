@@ -13,13 +13,14 @@ pub enum Side {
 }
 
 impl Side {
+    // As for refusals, a trait for numbers is no plainer.
     pub fn number(self) -> u8
         ensures { result ≡ side_number self }
     {
         self as u8
     }
 
-    // The word that scripts and output use.
+    // The word that scripts and output use. A trait for words is no plainer: no code is generic over them.
     pub fn word(self) -> &'static str
         ensures { result.now ≡ side_word self }
     {
