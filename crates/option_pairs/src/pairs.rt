@@ -43,14 +43,9 @@ impl<'a> Iterator for Pairs<'a> {
     }
 }
 
-// Whether one of the pairs has the name, without regard to the case of A to Z. As `any` it was tried, and the proof didn't close.
+// Whether one of the pairs has the name, without regard to the case of A to Z.
 pub(crate) fn has_name(name: &[u8], pairs: &[u8]) -> bool
     ensures { (ps : List PairOf) → Are ps pairs.now → result ≡ has_name name.now ps }
 {
-    for pair in Pairs(pairs) {
-        if pair.name.eq_ignore_ascii_case(name) {
-            return true;
-        }
-    }
-    false
+    Pairs(pairs).any(|pair| pair.name.eq_ignore_ascii_case(name))
 }
