@@ -12,7 +12,7 @@ pub const DATAGRAM_MAX: usize = 1472;
 pub struct Datagram {
     source: u16,
     target: u16,
-    bytes: ShortBytes<1472>,
+    bytes: ShortBytes<DATAGRAM_MAX>,
 }
 
 // What is said of a datagram besides its bytes.
@@ -46,11 +46,11 @@ impl Datagram {
         })
     }
 
-    // Writes the bytes to the front of `buf`, and answers what else is said of them.
-    pub fn write_to(&self, buf: &mut [u8]) -> Header
-        requires { 1472 ≤ length buf.old }
+    // Writes the bytes to the front of a buffer of the most bytes that any datagram has, and answers what else is said of them.
+    pub fn write_to(&self, buf: &mut [u8; DATAGRAM_MAX]) -> Header
         ensures front { in_front result buf.new ≡ holds self.now }
         ensures fits { result.len ≤ 1472 }
+        ensures whole { length buf.new ≡ 1472 }
         ensures rest { drop result.len buf.new ≡ drop result.len buf.old }
     {
         let bytes = self.bytes.as_slice();

@@ -1,6 +1,5 @@
 -- What the steps of a queue are to a ring, and why a ring's calls are those of a channel.
 use Rattle.std.proofs.Common.{◌≡◌, ℕ, Bool, true, false, cond, ltb, ◌⊎◌, List, [], ◌∷◌, ◌++◌, map, length, drop, Some, Option, sym, refl, ap, ◌∙◌, subst, inl, inr, ⊎_elim}
-use mathlib.Core.List.Memᴰ
 use mathlib.Core.List.{Memᴰ}
 use Rattle.std.specs.List.{slice_get}
 use Rattle.std.specs.Option.{option_map}
@@ -8,6 +7,7 @@ use Rattle.std.proofs.lemmas.List.{map-append, length-map}
 use Rattle.terms.specs.declared.side.Side.{Side}
 use Rattle.terms.specs.declared.side.Side.TheVariants.{Shield, Cabin}
 use Rattle.terms.specs.Sides.{opposite}
+use Rattle.channel.proofs.Members.{of_more}
 use Rattle.channel.specs.Packet.{Body, packet}
 use Rattle.channel.specs.declared.tallies.Tallies.{Tallies}
 use Rattle.ring.specs.declared.ring.Ring.{Ring}
@@ -32,11 +32,6 @@ popped_front f (x ∷ xs) o e = ap (option_map f) e
 pub popped_rest : {X Y : Type 0} (f : X → Y) (xs ys : List X) → ys ≡ drop 1 xs → map f ys ≡ drop 1 (map f xs)
 popped_rest f [] ys e = ap (map f) e
 popped_rest f (x ∷ xs) ys e = ap (map f) e
-
--- one of a list with perhaps one more is of the list or that one
-pub of_more : {X : Type 0} (xs : List X) (y x : X) (t : Bool) → Memᴰ x (xs ++ cond t (y ∷ []) []) → Memᴰ x xs ⊎ (x ≡ y)
-of_more xs y x true m = ⊎_elim inl (λ k. inr (Memᴰ.eq_of_singleton k)) (Memᴰ.append_cases xs m)
-of_more xs y x false m = ⊎_elim inl (λ k. absurd (Memᴰ.not-nil k)) (Memᴰ.append_cases xs m)
 
 -- what waits after a put waited before or is the new one
 pub put_within : (before after : Side → List Body) (from : Side) (new : Body) (t : Bool)

@@ -81,11 +81,11 @@ impl<'a> Channel for Ring<'a> {
     }
 
     fn take(&mut self, side: Side, buf: &mut [u8]) -> Result<Option<Header>, Refusal> {
-        if buf.len() < DATAGRAM_MAX {
+        let Some(front) = buf.first_chunk_mut::<DATAGRAM_MAX>() else {
             return Err(Refusal::ShortBuffer);
-        }
+        };
         match self.remove(side) {
-            Some(datagram) => Ok(Some(datagram.write_to(buf))),
+            Some(datagram) => Ok(Some(datagram.write_to(front))),
             None => Ok(None),
         }
     }
