@@ -1,0 +1,4 @@
+pub mod Packet
+pub mod Meaning
+pub mod Tallies
+pub mod Sent
