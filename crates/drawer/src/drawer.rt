@@ -23,8 +23,7 @@ pub struct Kept {
     datagram: Datagram,
 }
 
-// The first `count` of the slots are in use. That there are 32 is said where a drawer is made, and each call says that they stay: a ghost field beside
-// the lent memory would keep a struct that owns a drawer from being proved.
+// The first `count` of the slots are in use. That there are 32 is said where a drawer is made, and each call says that they stay.
 #[derive(Drop)]
 pub struct Drawer<'a> {
     slots: &'a mut [Kept],

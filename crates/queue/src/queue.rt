@@ -3,8 +3,7 @@ ghost use Rattle.std.specs.Prelude.{◌≡◌, [], ◌∷◌, ◌++◌, false, l
 ghost use Rattle.queue.specs.Queued.{queued, places};
 
 // The oldest element lies at `head`, or in the first place if `head` is past the last. The others lie behind it, going on in the first place after the
-// last. No more wait than there are places, however large `count` is: so every value is a queue, and the struct needs no ghost field, which beside a
-// `&mut` would keep a struct that owns a queue from being proved.
+// last. No more wait than there are places, however large `count` is: so every value is a queue, and the struct needs no ghost field.
 #[derive(Drop)]
 pub struct Queue<'a, T> {
     slots: &'a mut [T],

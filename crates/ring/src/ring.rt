@@ -15,8 +15,7 @@ use terms::side::Side;
 // How many datagrams can wait for one side.
 pub const PLACES: usize = 16;
 
-// That each queue has 16 places is said where a ring is made, and each call says that the places stay: a ghost field beside the lent memory would keep
-// a struct that owns a ring from being proved.
+// That each queue has 16 places is said where a ring is made, and each call says that the places stay.
 #[derive(Drop)]
 pub struct Ring<'a> {
     to_shield: Queue<'a, Datagram>,
