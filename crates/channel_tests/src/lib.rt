@@ -1,4 +1,4 @@
-// Tests of the queue, the ring and the drawer on examples.
+// Tests of the queue, the ring, the drawer and the tap on examples.
 #![tactic(auto)]
 
 #[cfg(test)]
@@ -9,5 +9,7 @@ mod picks;
 mod places;
 #[cfg(test)]
 mod script;
+#[cfg(test)]
+mod tapped;
 #[cfg(test)]
 mod wrapping;

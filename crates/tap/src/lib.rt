@@ -1,0 +1,4 @@
+// A layer over any channel that records what passes.
+#![tactic(auto)]
+
+pub mod tap;
