@@ -55,7 +55,7 @@ fn call<C: Channel>(rt: &impl Abort, channel: &mut C, step: Step) -> Answer {
     }
 }
 
-pub fn run<C: Channel>(rt: &impl Abort, channel: &mut C, rows: &[(Step, Answer)]) {
+pub(crate) fn run<C: Channel>(rt: &impl Abort, channel: &mut C, rows: &[(Step, Answer)]) {
     for (step, expected) in rows {
         assert_eq!(rt; call(rt, channel, *step), *expected, "{step:?}");
     }

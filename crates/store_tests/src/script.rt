@@ -42,7 +42,7 @@ fn call<S: Store>(store: &mut S, step: Step) -> Answer {
     }
 }
 
-pub fn run<S: Store>(rt: &impl Abort, store: &mut S, rows: &[(Step, Answer)]) {
+pub(crate) fn run<S: Store>(rt: &impl Abort, store: &mut S, rows: &[(Step, Answer)]) {
     for (step, expected) in rows {
         assert_eq!(rt; call(store, *step), *expected, "{step:?}");
     }
