@@ -1,14 +1,8 @@
 use Rattle.std.proofs.Common.{rules, arith, ap, sym, ◌∙◌, ◌≡◌, length, drop, get_or, ◌*◌, Err}
 use Rattle.console.specs.declared.hex.HexFault.TheVariants.{NotADigit}
 use Rattle.console.specs.Hex.{hex_bytes, Decodes}
-use Rattle.console.proofs.Decoding.{after, after_nothing, pair_first, left_after, no_byte, more, bad, whole}
+use Rattle.console.proofs.Decoding.{after, pair_first, left_after, no_byte, more, bad}
 use Rattle.console.proofs.hex.decode_hex.Goals as goal
-
-pub loop-i-init : goal.loop-i-init
-loop-i-init c = let e = after_nothing (hex_bytes c.args.digits.now) in search rules
-
-pub returns : goal.returns
-returns c = whole c.args.digits.now _ c.loop-i.i-iterator.iter.rest.now (search rules) c.loop-i.invariant.2
 
 pub loop-i-preserved : goal.loop-i-preserved
 loop-i-preserved c =
