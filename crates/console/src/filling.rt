@@ -9,7 +9,11 @@ pub fn fill_bytes(heap: Global, count: usize) -> Result<Vec<u8>, AllocError>
     ensures bytes { IfOk result (λ v. vec_items v ≡ map (λ i. i % 251) (range_with_len 0 count)) }
     ensures len { IfOk result (λ v. vec_len v ≡ count) }
 {
-    (0..count).map(|i| (i % 251) as u8).collect(heap)
+    // Two arms for speed alone: a remainder of 32 bits takes a quarter of the time of one of 64.
+    match u32::try_from(count) {
+        Ok(count) => (0..count).map(|i| (i % 251) as u8).collect(heap),
+        Err(_) => (0..count).map(|i| (i % 251) as u8).collect(heap),
+    }
 }
 
 #[cfg(test)]
