@@ -21,7 +21,11 @@ impl Page {
         ensures owner { self.new.owner ≡ self.old.owner }
         ensures text { self.new.text ≡ overwritten self.old.text at part.now }
     {
-        self.text[at..at + part.len()].copy_from_slice(part);
+        match <[u8; PAGE_SIZE]>::try_from(part) {
+            // A whole page is taken as one value, which costs less than a copy of a length that is not known.
+            Ok(text) => self.text = text,
+            Err(_) => self.text[at..at + part.len()].copy_from_slice(part),
+        }
     }
 
     // A page with nothing on it.
