@@ -1,7 +1,9 @@
-use Rattle.std.proofs.Common.{◌≡◌, ◌<◌, ◌≤◌, length, None, get_or, vec_items, sym, ap, ◌∙◌, arith}
+use Rattle.std.proofs.Common.{◌≡◌, ℕ, ◌<◌, ◌≤◌, length, None, get_or, vec_items, ap, ◌∙◌, arith}
 use Rattle.std.proofs.lemmas.Result.{err_from_is_err_and}
 use Rattle.std.proofs.lemmas.Bool.Decides.{nat_tests}
-use Rattle.pages.specs.Layout.{item_of}
+use Rattle.store.specs.declared.entry.Entry.{Entry}
+use Rattle.store.specs.Meaning.{bytes_at}
+use Rattle.pages.specs.Layout.{item_of, items_of}
 use Rattle.pages.specs.Indexed.{length-imap}
 use Rattle.pages.proofs.Frame.{bytes_length, filed_at}
 use Rattle.pages.proofs.calls.PagedStoreStore.size.Goals as goal
@@ -26,6 +28,6 @@ returns c =
     let x = c.in_ok-entry.entry.now in
     let got = rw c.in_ok-entry.ensures.ok_part at c.get.ensures.lookup in
     let lt : i < length fs = omega (arith, got.3.0, ap length c.deref.ensures.value) in
-    let is : x ≡ get_or fs i x = got.1 ∙ ap (λ gs. get_or gs i x) c.deref.ensures.value in
     let n = length-imap (item_of ps) fs in
-    (grind (arith, nat_tests), ap (λ f. f.kept) is ∙ sym (bytes_length ps fs i s.filings ∙ filed_at fs i x lt))
+    let sized : (z : Entry ℕ) → length (bytes_at (items_of ps fs) i) ≡ (get_or fs i z).kept = λ z. bytes_length ps fs i s.filings ∙ filed_at fs i z lt in
+    (grind (arith, nat_tests), grind (arith, sized))
