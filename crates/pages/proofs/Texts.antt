@@ -1,5 +1,5 @@
 -- The texts of an owner's pages, as pages come and go. Assumes nothing.
-use Rattle.std.proofs.Common.{◌≡◌, ℕ, zero, suc, ◌+◌, ◌*◌, ◌%◌, ◌<◌, ◌≤◌, Bool, true, false, cond, List, [], ◌∷◌, ◌++◌, map, length, get_or, take, drop, set, Some, None, Option, MatchOption, IfSome, sym, refl, ap, ◌∙◌, subst, ⊎_elim, arith}
+use Rattle.std.proofs.Common.{◌≡◌, ℕ, zero, suc, ◌+◌, ◌*◌, ◌%◌, ◌<◌, ◌≤◌, Bool, true, false, cond, not, List, [], ◌∷◌, ◌++◌, map, length, get_or, take, drop, set, Some, None, Option, MatchOption, IfSome, sym, refl, ap, ◌∙◌, subst, ⊎_elim, arith}
 use native.Mathlib.Nat.{ℕ_set}
 use lib.Seq.{take-append-add}
 use Rattle.std.proofs.lemmas.List.{append-nil, append_assoc, length-append, length_push, length-set, length-take-le, length-drop, get_or-drop, take-append-le, set_split, set-get_or}
@@ -203,3 +203,11 @@ last_is w ps (Some k) h after = (
   no_texts w (drop (suc k) ps) (λ j z lt.
       ap (λ p. same w p.owner) (get_or-drop (suc k) ps j z) ∙ after (suc k + j) z (omega arith) (omega (arith, length-drop (suc k) ps))),
 )
+
+-- without an owner's pages, those from a place on from which all are the owner's are none
+pub without_front : (w : Owner) (ps : List Page) (n : ℕ) → ((j : ℕ) (z : Page) → n ≤ j → j < length ps → same w (get_or ps j z).owner ≡ true) → without w (take n ps) ≡ without w ps
+without_front w [] zero h = refl
+without_front w [] (suc n) h = refl
+without_front w (p ∷ ps) zero h = rw (h 0 p (omega arith) (omega arith)) (without_front w ps zero (λ j z lo hi. h (suc j) z (omega arith) (omega (arith, hi))))
+without_front w (p ∷ ps) (suc n) h =
+    ap (λ xs. cond (not (same w p.owner)) (p ∷ xs) xs) (without_front w ps n (λ j z lo hi. h (suc j) z (omega (arith, lo)) (omega (arith, hi))))

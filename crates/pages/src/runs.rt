@@ -1,7 +1,7 @@
 // What is done to all the pages of an owner.
-ghost use Rattle.std.specs.Prelude.{◌≡◌, ◌+◌, ◌-◌, ◌%◌, ◌<◌, ◌≤◌, [], ◌++◌, map, length, drop, MatchOption};
+ghost use Rattle.std.specs.Prelude.{◌≡◌, ℕ, ◌+◌, ◌-◌, ◌%◌, ◌<◌, ◌≤◌, true, [], ◌++◌, map, length, get_or, drop, MatchOption};
 ghost use Rattle.store.specs.Meaning.{part as part_of};
-ghost use Rattle.pages.specs.Layout.{without, passed, texts, flat, need, Last};
+ghost use Rattle.pages.specs.Layout.{same, without, passed, texts, flat, need, Last};
 ghost use Rattle.pages.specs.Changes.{Becomes, Extends};
 
 use crate::parts::{PAGE_SIZE, Page, Pages};
@@ -15,10 +15,22 @@ impl Pages {
         self.limit - self.taken.len()
     }
 
-    // The owner's pages are given back, and the others close up.
+    // From where on all pages are the owner's.
+    fn tail(&self, who: Owner) -> usize
+        ensures { (j : ℕ) (z : Page) → result ≤ j → j < length self.now.taken.items → same who (get_or self.now.taken.items j z).owner ≡ true }
+    {
+        match self.taken.iter().rposition(|page| page.owner != who) {
+            Some(k) => k + 1,
+            None => 0,
+        }
+    }
+
+    // The owner's pages are given back, and the others close up. Those at the end go at once, since `retain` moves each page that it tests.
     pub(crate) fn give_back(&mut self, who: Owner)
         ensures { Becomes self.old self.new (without who self.old.taken.items) }
     {
+        let end = self.tail(who);
+        self.taken.truncate(end);
         self.taken.retain(|page| page.owner != who);
     }
 
